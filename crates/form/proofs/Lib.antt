@@ -1,0 +1,10 @@
+pub mod Octets
+pub mod Fmt
+pub mod Body
+pub mod Record
+pub mod Dump
+pub mod Pass
+pub mod Then
+pub mod Whole
+pub mod Many
+pub mod Shape
