@@ -1,0 +1,174 @@
+// Types 16 and 17: state changes and BGP messages. m is the record from its header to its last octet.
+ghost use mathlib.Core.Path.{_≡_};
+ghost use Prim.Native.Nat.{_+_, _≤_};
+ghost use Rattle.form.specs.Pass.{whole};
+ghost use Rattle.form.specs.Words.{choose};
+ghost use Rattle.page.specs.Bgp4mp.{session, addresses, stateChange, message, messageRest};
+ghost use Rattle.shown.specs.Told.{changed, told, sessionOf};
+ghost use Rattle.shown.specs.Told as show;
+ghost use Rattle.shown.specs.declared.Shown.the-variants.{Message, Refused};
+use flow::Num;
+use flow::Room;
+use flow::field;
+use flow::skip;
+use shown::Header;
+use shown::Part;
+use shown::Session;
+use shown::Shown;
+
+fn states(m: &[u8], at: usize, h: Header, s: Session) -> Shown
+    ensures { λ r. ⌜ r ≡ whole (changed h s) Refused stateChange (now (m .entry)) at ⌝ }
+{
+    let Num::Value(old, a) = field(m, at, 2) else {
+        return Shown::Refused(5, at);
+    };
+    if old < 1 {
+        return Shown::Refused(9, at);
+    }
+    if 6 < old {
+        return Shown::Refused(9, at);
+    }
+    let Num::Value(new, b) = field(m, a, 2) else {
+        return Shown::Refused(5, a);
+    };
+    if new < 1 {
+        return Shown::Refused(9, a);
+    }
+    if 6 < new {
+        return Shown::Refused(9, a);
+    }
+    if b < m.len() {
+        return Shown::Refused(6, b);
+    }
+    Shown::Change(h, s, old, new)
+}
+
+// Behind a BGP message's type octet; its length field, n, stands at `length`.
+fn message_rest(
+    m: &[u8],
+    at: usize,
+    length: usize,
+    n: u64,
+    most: u64,
+    h: Header,
+    s: Session,
+    marker: usize,
+    kind: u64,
+) -> Shown
+    requires { ⌜ at ≡ length + 3 ⌝ }
+    ensures { λ r. ⌜ r ≡ whole (λ fs. Message h s (record { at = marker; size = n }) kind) Refused (messageRest most n) (now (m .entry)) at ⌝ }
+{
+    if n < 19 {
+        return Shown::Refused(10, length);
+    }
+    if most < n {
+        return Shown::Refused(10, length);
+    }
+    let Room::To(e) = skip(m, at, (n - 19) as usize) else {
+        return Shown::Refused(5, length);
+    };
+    if e < m.len() {
+        return Shown::Refused(6, length);
+    }
+    Shown::Message(
+        h,
+        s,
+        Part {
+            at: marker,
+            size: n as usize,
+        },
+        kind,
+    )
+}
+
+// A BGP message that starts at `at` and ends where m ends; `most` is the longest.
+pub fn message_at(m: &[u8], at: usize, most: u64, h: Header, s: Session) -> Shown
+    ensures { λ r. ⌜ r ≡ whole (told h s) Refused (message most) (now (m .entry)) at ⌝ }
+{
+    let Room::To(a) = skip(m, at, 16) else {
+        return Shown::Refused(5, at);
+    };
+    let Num::Value(n, b) = field(m, a, 2) else {
+        return Shown::Refused(5, a);
+    };
+    let Num::Value(kind, d) = field(m, b, 1) else {
+        return Shown::Refused(5, b);
+    };
+    message_rest(m, d, a, n, most, h, s, at, kind)
+}
+
+// The addresses, and then the states (`changes`) or a BGP message.
+fn addresses_at(
+    m: &[u8],
+    at: usize,
+    size: usize,
+    peer: u64,
+    local: u64,
+    interface: u64,
+    family: u64,
+    changes: bool,
+    most: u64,
+    h: Header,
+) -> Shown
+    ensures { λ r. ⌜ r ≡ whole (λ fs. choose changes (changed h (sessionOf peer local interface family fs) fs) (told h (sessionOf peer local interface family fs) fs)) Refused (addresses size (choose changes stateChange (message most))) (now (m .entry)) at ⌝ }
+{
+    let Room::To(a) = skip(m, at, size) else {
+        return Shown::Refused(5, at);
+    };
+    let Room::To(b) = skip(m, a, size) else {
+        return Shown::Refused(5, a);
+    };
+    let s = Session {
+        peer,
+        local,
+        interface,
+        family,
+        theirs: Part { at, size },
+        ours: Part { at: a, size },
+    };
+    if changes {
+        return states(m, b, h, s);
+    }
+    message_at(m, b, most, h, s)
+}
+
+fn session_at(m: &[u8], at: usize, width: usize, changes: bool, most: u64, h: Header) -> Shown
+    requires { ⌜ width ≤ 8 ⌝ }
+    ensures { λ r. ⌜ r ≡ whole (λ fs. choose changes (show.change h fs) (show.message h fs)) Refused (session width (choose changes stateChange (message most))) (now (m .entry)) at ⌝ }
+{
+    let Num::Value(peer, a) = field(m, at, width) else {
+        return Shown::Refused(5, at);
+    };
+    let Num::Value(local, b) = field(m, a, width) else {
+        return Shown::Refused(5, a);
+    };
+    let Num::Value(interface, d) = field(m, b, 2) else {
+        return Shown::Refused(5, b);
+    };
+    let Num::Value(family, e) = field(m, d, 2) else {
+        return Shown::Refused(5, d);
+    };
+    if family == 1 {
+        return addresses_at(m, e, 4, peer, local, interface, family, changes, most, h);
+    }
+    if family == 2 {
+        return addresses_at(m, e, 16, peer, local, interface, family, changes, most, h);
+    }
+    Shown::Refused(7, d)
+}
+
+// A state change whose session starts at `at`, with AS numbers of `width` octets.
+pub fn state_change(m: &[u8], at: usize, width: usize, h: Header) -> Shown
+    requires { ⌜ width ≤ 8 ⌝ }
+    ensures { λ r. ⌜ r ≡ whole (show.change h) Refused (session width stateChange) (now (m .entry)) at ⌝ }
+{
+    session_at(m, at, width, true, 0, h)
+}
+
+// The same for a BGP message.
+pub fn bgp_message(m: &[u8], at: usize, width: usize, most: u64, h: Header) -> Shown
+    requires { ⌜ width ≤ 8 ⌝ }
+    ensures { λ r. ⌜ r ≡ whole (show.message h) Refused (session width (message most)) (now (m .entry)) at ⌝ }
+{
+    session_at(m, at, width, false, most, h)
+}

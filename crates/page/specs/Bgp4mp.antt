@@ -1,0 +1,34 @@
+-- Types 16 and 17: state changes and BGP messages (document 01, "Record layouts"). Assumes nothing.
+use Prim.Native.Nat.{ℕ, _-_}
+use lib.Dec.{eqb}
+use Rattle.form.specs.Fmt.{Fmt, end}
+use Rattle.form.specs.Words.{_$_, choose, num, skip, must, area, fail, checked, within}
+use Rattle.page.specs.Names.{peerAs, localAs, interface, family, peerAddress, localAddress, oldState, newState, marker, bgpLength, bgpType, bgpRest}
+
+-- the two addresses, n octets each
+unfoldable pub addresses : ℕ → Fmt → Fmt
+addresses n f = skip peerAddress n $ skip localAddress n f
+
+-- two AS numbers of w octets, the interface, and the family, which decides the addresses' size; a family but 1 and 2 is fault 7
+unfoldable pub session : ℕ → Fmt → Fmt
+session w f =
+    num peerAs w λ p. num localAs w λ l. num interface 2 λ i. num family 2 λ fam.
+    choose (eqb fam 1) (addresses 4 f)
+    $ choose (eqb fam 2) (addresses 16 f)
+    $ fail 7 2
+
+-- a state that is none of 1 to 6 is fault 9
+unfoldable pub state : ℕ → Fmt → Fmt
+state x f = checked x 2 (λ s. within 1 s 6) 9 λ s. f
+
+unfoldable pub stateChange : Fmt
+stateChange = state oldState $ state newState $ end 0
+
+-- behind a BGP message's type octet: its length field n is judged now (10), and then must end where the record ends (5, 6). The field
+-- stands 3 octets back, and so all three faults are placed there.
+unfoldable pub messageRest : (most n : ℕ) → Fmt
+messageRest most n = must (within 19 n most) 10 3 $ area bgpRest (n - 19) 3 $ end (n - 16)
+
+-- `most` is the longest BGP message
+unfoldable pub message : (most : ℕ) → Fmt
+message most = skip marker 16 $ num bgpLength 2 λ n. num bgpType 1 λ t. messageRest most n

@@ -1,0 +1,7 @@
+pub mod Names
+pub mod Tiles
+pub mod Bgp4mp
+pub mod Rib
+pub mod TableDump
+pub mod Peers
+pub mod Layout

@@ -1,0 +1,116 @@
+// Type 13, subtype 1: the peer table. m is the record from its header to its last octet.
+ghost use mathlib.Core.Path.{_≡_};
+ghost use Prim.Native.Nat.{_+_, _≤_};
+ghost use Rattle.form.specs.Pass.{pass, whole, times};
+ghost use Rattle.page.specs.Peers.{peerRest, peerSized, peer, peerTable};
+ghost use Rattle.shown.specs.Told.{partOf, restFrom};
+ghost use Rattle.shown.specs.Told as show;
+ghost use Rattle.form.specs.Pass.{numberOf};
+ghost use Rattle.page.specs.Names.{peerAs, peerAddress};
+ghost use Rattle.shown.specs.declared.Shown.the-variants.{PeerTable, Refused};
+ghost use Rattle.shown.specs.declared.Peer.the-variants.{Of, Bad};
+use flow::Num;
+use flow::Room;
+use flow::field;
+use flow::left;
+use flow::skip;
+use shown::Header;
+use shown::Part;
+use shown::Peer;
+use shown::Peers;
+use shown::Shown;
+
+fn peer_rest(m: &[u8], at: usize, size: usize, width: usize, kind: u64, id: u64) -> Peer
+    requires { ⌜ width ≤ 8 ⌝ }
+    ensures { λ r. ⌜ r ≡ pass (λ fs a p. Of kind id (partOf peerAddress fs) (numberOf peerAs fs) a) Bad (peerRest size width) (now (m .entry)) at ⌝ }
+{
+    let Room::To(a) = skip(m, at, size) else {
+        return Peer::Bad(5, at);
+    };
+    let Num::Value(number, b) = field(m, a, width) else {
+        return Peer::Bad(5, a);
+    };
+    Peer::Of(kind, id, Part { at, size }, number, b)
+}
+
+fn peer_sized(m: &[u8], at: usize, size: usize, kind: u64, id: u64) -> Peer
+    ensures { λ r. ⌜ r ≡ pass (λ fs a p. Of kind id (partOf peerAddress fs) (numberOf peerAs fs) a) Bad (peerSized size kind) (now (m .entry)) at ⌝ }
+{
+    if kind / 2 % 2 == 1 {
+        return peer_rest(m, at, size, 4, kind, id);
+    }
+    peer_rest(m, at, size, 2, kind, id)
+}
+
+// The peer that starts at `at`.
+pub fn peer_at(m: &[u8], at: usize) -> Peer
+    ensures { λ r. ⌜ r ≡ pass show.peer Bad peer (now (m .entry)) at ⌝ }
+{
+    let Num::Value(kind, a) = field(m, at, 1) else {
+        return Peer::Bad(5, at);
+    };
+    let Num::Value(id, b) = field(m, a, 4) else {
+        return Peer::Bad(5, a);
+    };
+    if kind % 2 == 1 {
+        return peer_sized(m, b, 16, kind, id);
+    }
+    peer_sized(m, b, 4, kind, id)
+}
+
+// So many peers, and nothing behind them; then the answer is s.
+pub fn peers_at(m: &[u8], from: usize, count: u64, s: Shown) -> Shown
+    ensures { λ r. ⌜ r ≡ whole (λ fs. s) Refused (times count peer) (now (m .entry)) from ⌝ }
+{
+    let mut at = from;
+    let mut left = count;
+    while 0 < left {
+        match peer_at(m, at) {
+            Peer::Of(_, _, _, _, next) => {
+                at = next;
+            }
+            Peer::Bad(n, p) => {
+                return Shown::Refused(n, p);
+            }
+        }
+        left -= 1;
+    }
+    if at < m.len() {
+        return Shown::Refused(6, at);
+    }
+    s
+}
+
+// A peer table's message that starts at `at` and ends where m ends.
+pub fn peer_table(m: &[u8], at: usize, h: Header) -> Shown
+    ensures { λ r. ⌜ r ≡ whole (show.peerTable h (now (m .entry))) Refused peerTable (now (m .entry)) at ⌝ }
+{
+    let Num::Value(collector, a) = field(m, at, 4) else {
+        return Shown::Refused(5, at);
+    };
+    let Num::Value(n, b) = field(m, a, 2) else {
+        return Shown::Refused(5, a);
+    };
+    let Room::To(d) = skip(m, b, n as usize) else {
+        return Shown::Refused(5, b);
+    };
+    let Num::Value(count, e) = field(m, d, 2) else {
+        return Shown::Refused(5, d);
+    };
+    let s = Shown::PeerTable(
+        h,
+        Peers {
+            collector,
+            name: Part {
+                at: b,
+                size: n as usize,
+            },
+            count,
+            peers: Part {
+                at: e,
+                size: left(m, e),
+            },
+        },
+    );
+    peers_at(m, e, count, s)
+}

@@ -1,0 +1,128 @@
+// Type 12. m is the record from its header to its last octet.
+ghost use mathlib.Core.Path.{_≡_};
+ghost use Prim.Native.Nat.{_+_, _≤_};
+ghost use Rattle.form.specs.Fmt.{end};
+ghost use Rattle.form.specs.Pass.{whole};
+ghost use Rattle.page.specs.Rib.{tiling};
+ghost use Rattle.page.specs.TableDump.{tableDump, tableDumpRest};
+ghost use Rattle.shown.specs.Told.{routeOf, routeRest};
+ghost use Rattle.shown.specs.Told as show;
+ghost use Rattle.shown.specs.declared.Shown.the-variants.{TableDump, Refused};
+use copy::part;
+use flow::Num;
+use flow::Room;
+use flow::field;
+use flow::skip;
+use shown::Header;
+use shown::Part;
+use shown::Route;
+use shown::Shown;
+
+fn attributes_at(
+    m: &[u8],
+    at: usize,
+    n: usize,
+    h: Header,
+    view: u64,
+    sequence: u64,
+    prefix: Part,
+    bits: u64,
+    status: u64,
+    originated: u64,
+    address: Part,
+    peer: u64,
+) -> Shown
+    ensures { λ r. ⌜ r ≡ whole (λ fs. TableDump h (routeOf view sequence prefix bits status originated address peer fs)) Refused (tiling n (end 0)) (now (m .entry)) at ⌝ }
+{
+    let Room::To(e) = skip(m, at, n) else {
+        return Shown::Refused(5, at);
+    };
+    if attr::tile(part(m, at, n)) {
+        if e < m.len() {
+            return Shown::Refused(6, e);
+        }
+        return Shown::TableDump(
+            h,
+            Route {
+                view,
+                sequence,
+                prefix,
+                bits,
+                status,
+                originated,
+                address,
+                peer,
+                attributes: Part { at, size: n },
+            },
+        );
+    }
+    Shown::Refused(11, at)
+}
+
+// Behind the prefix length.
+fn rest_at(
+    m: &[u8],
+    at: usize,
+    size: usize,
+    h: Header,
+    view: u64,
+    sequence: u64,
+    prefix: Part,
+    bits: u64,
+) -> Shown
+    ensures { λ r. ⌜ r ≡ whole (λ fs. TableDump h (routeRest view sequence prefix bits fs)) Refused (tableDumpRest size) (now (m .entry)) at ⌝ }
+{
+    let Num::Value(status, a) = field(m, at, 1) else {
+        return Shown::Refused(5, at);
+    };
+    let Num::Value(originated, b) = field(m, a, 4) else {
+        return Shown::Refused(5, a);
+    };
+    let Room::To(d) = skip(m, b, size) else {
+        return Shown::Refused(5, b);
+    };
+    let Num::Value(peer, e) = field(m, d, 2) else {
+        return Shown::Refused(5, d);
+    };
+    let Num::Value(n, g) = field(m, e, 2) else {
+        return Shown::Refused(5, e);
+    };
+    let address = Part { at: b, size };
+    attributes_at(
+        m,
+        g,
+        n as usize,
+        h,
+        view,
+        sequence,
+        prefix,
+        bits,
+        status,
+        originated,
+        address,
+        peer,
+    )
+}
+
+// A type 12 message that starts at `at` and ends where m ends; an address has `size` octets.
+pub fn table_dump(m: &[u8], at: usize, size: usize, h: Header) -> Shown
+    requires { ⌜ size ≤ 16 ⌝ }
+    ensures { λ r. ⌜ r ≡ whole (show.tableDump h) Refused (tableDump size) (now (m .entry)) at ⌝ }
+{
+    let Num::Value(view, a) = field(m, at, 2) else {
+        return Shown::Refused(5, at);
+    };
+    let Num::Value(sequence, b) = field(m, a, 2) else {
+        return Shown::Refused(5, a);
+    };
+    let Room::To(d) = skip(m, b, size) else {
+        return Shown::Refused(5, b);
+    };
+    let Num::Value(bits, e) = field(m, d, 1) else {
+        return Shown::Refused(5, d);
+    };
+    if ((8 * size) as u64) < bits {
+        return Shown::Refused(8, d);
+    }
+    rest_at(m, e, size, h, view, sequence, Part { at: b, size }, bits)
+}
