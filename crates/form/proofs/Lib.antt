@@ -8,3 +8,4 @@ pub mod Then
 pub mod Whole
 pub mod Many
 pub mod Shape
+pub mod Put
