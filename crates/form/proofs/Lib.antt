@@ -9,3 +9,4 @@ pub mod Whole
 pub mod Many
 pub mod Shape
 pub mod Put
+pub mod Given
