@@ -10,3 +10,4 @@ pub mod Many
 pub mod Shape
 pub mod Put
 pub mod Given
+pub mod Refuses
