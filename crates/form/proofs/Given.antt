@@ -1,15 +1,14 @@
 -- Writing what was read restores the octets; reading what a writer did not refuse shows what it was given. Assumes nothing.
-use mathlib.Core.Path.{_≡_, refl, sym, ap, ap₂, _∙_}
+use mathlib.Core.Path.{_≡_, refl, sym, ap₂, _∙_}
 use mathlib.Core.List.{List, [], _∷_, _++_, append-assoc, append-nil}
-use Prim.Native.Nat.{ℕ, zero, suc, _^_, _<_}
+use Prim.Native.Nat.{ℕ}
 use native.Mathlib.Omega.{arith}
 use lib.ListN.{length}
-use Rattle.form.specs.Octets.{Octets}
 use Rattle.form.specs.Fmt.{Out, bad, good, Fmt, Fits, join}
 use Rattle.form.specs.Body.{readN, joins, AllFits, Items, Plan, just, free, many, Body, plain, loose, listed, spell, BodyFits}
-use Rattle.form.specs.Shape.{Layout, refuse, fields, unread, table, entries, St, noTable, peersOf, plan, frontOf}
+use Rattle.form.specs.Shape.{Layout, refuse, fields, unread, table, entries, St, plan, frontOf}
 use Rattle.form.specs.Record.{Rec, write, readRec, Valid}
-use Rattle.form.specs.Put.{Value, orElse, large, refusal, lay, Tail, nothing, carried, items, tailed, faultOf, bodyRefusal, Given, message, octets, typeRefusal, recordRefusal}
+use Rattle.form.specs.Put.{Value, large, refusal, lay, Tail, items, tailed, faultOf, bodyRefusal, Given, message, octets, typeRefusal, recordRefusal}
 use Rattle.form.specs.Gives.{Fit, OctetsIn, tailOf, Shaped, Gives}
 use Rattle.form.proofs.Fmt.{Right}
 use Rattle.form.proofs.Body.{sound-n, complete-n}
@@ -74,8 +73,7 @@ body-shown (free f) vs t e o s = (loose (lay vs) (s .0), refusal-fit f vs e, ref
 body-shown (many f g) vs t e o (n, raw, d, c) =
     let z = orElse-zero (refusal f vs) _ e in
     let y = orElse-zero (large 2 n) (faultOf (readN g n 0 raw)) (rw d at (z .1)) in
-    let i = items-shown g n raw (readN g n 0 raw) (sound-n g n 0 raw c) (y .1) in
-    (
+    let i = items-shown g n raw (readN g n 0 raw) (sound-n g n 0 raw c) (y .1) in (
       listed (lay vs) (i .0),
       refusal-fit f vs (z .0),
       refl,

@@ -10,4 +10,5 @@ pub mod Many
 pub mod Shape
 pub mod Put
 pub mod Given
+pub mod Alike
 pub mod Refuses

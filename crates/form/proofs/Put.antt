@@ -7,7 +7,7 @@ use native.Mathlib.Omega.{arith}
 use lib.ListN.{length}
 use lib.Dec.{ltb}
 use borrow.Author.Tests.{ltb-true, ltb-false, lt-ltb, le-ltb}
-use Rattle.form.specs.Octets.{Octets, toBe}
+use Rattle.form.specs.Octets.{Octets}
 use Rattle.form.specs.Fmt.{Fmt, end, test, field, Fits}
 use Rattle.form.specs.Put.{Value, digits, bytes, spelled, orElse, sized, large, misfit, refusal, lay}
 use Rattle.form.specs.Gives.{FitOne, Fit, OctetsOne, OctetsIn}

@@ -1,22 +1,27 @@
 -- A writer refuses with the number that the reader would give, where the reader finds each value in its place. Assumes nothing.
 use mathlib.Core.Path.{_≡_, refl, sym, ap, _∙_}
-use mathlib.Core.Bool.{Bool, true, false}
-use mathlib.Core.Logic.{_⊎_, inl, inr}
+use mathlib.Core.Bool.{Bool, true, false, cond}
+use mathlib.Core.Logic.{inl, inr}
 use mathlib.Core.List.{List, [], _∷_, _++_, append-assoc}
 use Prim.Native.Nat.{ℕ, zero, suc, _+_, _-_, _^_, _≤_, _<_}
 use native.Mathlib.Omega.{arith}
 use lib.ListN.{length, take, drop, length-append, length-drop}
 use lib.Seq.{take-at, drop-at, take-append-le, drop-append-le}
-use lib.Dec.{ltb}
-use borrow.Author.Tests.{lt-ltb, le-ltb}
+use lib.Dec.{ltb, eqb}
+use borrow.Author.Tests.{lt-ltb, le-ltb, eqb-true}
 use Rattle.form.specs.Octets.{be, toBe}
-use Rattle.form.specs.Fmt.{Out, bad, good, bind, refuseIf, Fmt, end, test, field, read, Fits, join, overAt}
+use Rattle.form.specs.Fmt.{Out, bad, good, bind, refuseIf, Fmt, end, test, field, read, join, overAt}
 use Rattle.form.specs.Body.{readN, joins, Plan, just, free, many, Body, plain, loose, listed, ended, readBody}
-use Rattle.form.specs.Put.{Value, digits, bytes, spelled, orElse, sized, misfit, refusal, lay, Tail, nothing, carried, items, tailed, faultOf, itemsRefusal, bodyRefusal}
+use Rattle.form.specs.Shape.{Layout, refuse, fields, unread, table, entries, St, plan}
+use Rattle.form.specs.Record.{Rec, head, readRec}
+use Rattle.form.specs.Put.{Value, digits, bytes, spelled, orElse, misfit, refusal, lay}
+use Rattle.form.specs.Put.{Tail, nothing, carried, items, tailed, faultOf, itemsRefusal, bodyRefusal, Given, message, octets, typeRefusal, recordRefusal}
 use Rattle.form.specs.Gives.{FitOne, Fit}
 use Rattle.form.specs.Aligned.{Full, Aligned, Counted, AlignedBody}
 use Rattle.form.proofs.Octets.{length-toBe, be-toBe}
-use Rattle.form.proofs.Fmt.{complete}
+use Rattle.form.proofs.Fmt.{refuse-case, read-field, complete}
+use Rattle.form.proofs.Alike.{alike-fault, alike-items}
+use Rattle.form.proofs.Record.{read-message}
 use Rattle.form.proofs.Put.{zero-large, zero-misfit}
 
 -- ---- fields that end a message
@@ -47,17 +52,8 @@ aligned-read (test (suc n) b f) at vs raw h s = refl
 aligned-read (field x l b k) at [] raw h s = rw (lt-ltb (length raw) l s)
 aligned-read (field x l b k) at (v ∷ vs) raw h (inl s) =
     let c : List ℕ = spelled v in
-    let e : length c ≡ l = s .0 in
-    let g : l ≤ length (c ++ (join (lay vs) ++ raw)) = simp length-append (omega arith) in
-    rw (
-      append-assoc,
-      le-ltb _ _ g,
-      take-at c (join (lay vs) ++ raw) l e,
-      drop-at c (join (lay vs) ++ raw) l e,
-      zero-misfit v l (h .0) e,
-      fault-kept c (read (k c) (at + l) (join (lay vs) ++ raw)),
-    )
-    (aligned-read (k c) (at + l) vs raw (h .1) (s .1))
+    let q : List ℕ = join (lay vs) ++ raw in
+    rw (append-assoc c (join (lay vs)) raw, read-field x l b k at c q (s .0), zero-misfit v l (h .0) (s .0), fault-kept c (read (k c) (at + l) q)) (aligned-read (k c) (at + l) vs raw (h .1) (s .1))
 aligned-read (field x l b k) at (v ∷ vs) raw h (inr (inl s)) =
     let g : length (spelled v) < l = omega (arith, simp length-append at s) in
     rw (lt-ltb _ _ s, misfit-short v l (h .0) g)
@@ -88,10 +84,9 @@ full-read (test zero b f) at vs raw h s = full-read f at vs raw h (s refl)
 full-read (test (suc n) b f) at vs raw h s = (refl, λ z. omega arith)
 full-read (field x l b k) at (v ∷ vs) raw h s =
     let c : List ℕ = spelled v in
-    let e : length c ≡ l = s .0 in
-    let g : l ≤ length (c ++ (join (lay vs) ++ raw)) = simp length-append (omega arith) in
-    rw (append-assoc, le-ltb _ _ g, take-at c (join (lay vs) ++ raw) l e, drop-at c (join (lay vs) ++ raw) l e, zero-misfit v l (h .0) e)
-    (told-kept (refusal (k c) vs) c (lay vs) raw (read (k c) (at + l) (join (lay vs) ++ raw)) (full-read (k c) (at + l) vs raw (h .1) (s .1)))
+    let q : List ℕ = join (lay vs) ++ raw in
+    rw (append-assoc c (join (lay vs)) raw, read-field x l b k at c q (s .0), zero-misfit v l (h .0) (s .0))
+    (told-kept (refusal (k c) vs) c (lay vs) raw (read (k c) (at + l) q) (full-read (k c) (at + l) vs raw (h .1) (s .1)))
 
 -- what goes on with them
 told-bind : {A : Type 0} (n : ℕ) (cs : List (List ℕ)) (raw : List ℕ) (k : List (List ℕ) → List ℕ → Out A) (o : Out (List (List ℕ))) → Told n cs raw o
@@ -99,42 +94,6 @@ told-bind : {A : Type 0} (n : ℕ) (cs : List (List ℕ)) (raw : List ℕ) (k : 
 told-bind n cs raw k (bad zero p) h = absurd (h .1 refl)
 told-bind n cs raw k (bad (suc m) p) h = rw (h .0)
 told-bind n cs raw k (good ds r) h = rw (h .0, h .1, h .2)
-
--- ---- a fault's number does not depend on where the octets stand
-
-abbrev Alike : {A : Type 0} → Out A → Out A → Type 0
-Alike (bad n p) (bad m q) = n ≡ m
-Alike (bad n p) (good b s) = ⊥
-Alike (good a r) (bad m q) = ⊥
-Alike (good a r) (good b s) = (a ≡ b) × (r ≡ s)
-
-alike-fault : {A : Type 0} (o u : Out A) → Alike o u → faultOf o ≡ faultOf u
-alike-fault (bad n p) (bad m q) h = h
-alike-fault (good a r) (good b s) h = rw (h .1)
-
-alike-bind : {A B : Type 0} (o u : Out A) (k j : A → List ℕ → Out B) → Alike o u → ((a : A) (r : List ℕ) → Alike (k a r) (j a r)) → Alike (bind o k) (bind u j)
-alike-bind (bad n p) (bad m q) k j e h = e
-alike-bind (good a r) (good b s) k j e h = rw (e .0, e .1) (h b s)
-
-alike-refuse : {A : Type 0} (t : Bool) (n p q : ℕ) (o u : Out A) → Alike o u → Alike (refuseIf t n p o) (refuseIf t n q u)
-alike-refuse true n p q o u h = refl
-alike-refuse false n p q o u h = h
-
-alike-read : (f : Fmt) (a b : ℕ) (bs : List ℕ) → Alike (read f a bs) (read f b bs)
-unfolding read
-alike-read (end k) a b bs = (refl, refl)
-alike-read (test zero k f) a b bs = alike-read f a b bs
-alike-read (test (suc n) k f) a b bs = refl
-alike-read (field x l k g) a b bs =
-    alike-refuse (ltb (length bs) l) 5 (a - k) (b - k) _ _
-    (alike-bind (read (g (take l bs)) (a + l) (drop l bs)) (read (g (take l bs)) (b + l) (drop l bs)) _ _ (alike-read (g (take l bs)) (a + l) (b + l) (drop l bs)) (λ cs r. (refl, refl)))
-
-alike-items : (f : Fmt) (n a b : ℕ) (bs : List ℕ) → Alike (readN f n a bs) (readN f n b bs)
-unfolding readN
-alike-items f zero a b bs = (refl, refl)
-alike-items f (suc n) a b bs =
-    alike-bind (read f a bs) (read f b bs) _ _ (alike-read f a b bs)
-    (λ cs r. alike-bind (readN f n (a + length (join cs)) r) (readN f n (b + length (join cs)) r) _ _ (alike-items f n (a + length (join cs)) (b + length (join cs)) r) (λ its q. (refl, refl)))
 
 -- ---- bodies
 
@@ -149,7 +108,8 @@ orElse-none (suc n) = refl
 
 -- a count and items where they stand, after the fields cs
 items-read : (g : Fmt) (at : ℕ) (cs : List (List ℕ)) (t : Tail) → Counted t
-    → itemsRefusal g t ≡ faultOf (refuseIf (ltb (length (tailed t)) 2) 5 at (bind (readN g (be (take 2 (tailed t))) (at + 2) (drop 2 (tailed t))) (λ its q. ended (at + 2 + length (joins its)) (listed cs its) q)))
+    → itemsRefusal g t ≡ faultOf (refuseIf (ltb (length (tailed t)) 2) 5 at
+    (bind (readN g (be (take 2 (tailed t))) (at + 2) (drop 2 (tailed t))) (λ its q. ended (at + 2 + length (joins its)) (listed cs its) q)))
 items-read g at cs nothing h = refl
 items-read g at cs (carried r) h = rw (lt-ltb (length r) 2 h)
 items-read g at cs (items n raw) h =
@@ -169,3 +129,62 @@ refuses-as-reader (free f) at vs t h s =
 refuses-as-reader (many f g) at vs t h s =
     ap (orElse (refusal f vs)) (items-read g (at + length (join (lay vs))) (lay vs) t (s .1))
     ∙ told-bind (refusal f vs) (lay vs) (tailed t) _ (read f at (join (lay vs) ++ tailed t)) (full-read f at vs (tailed t) h (s .0))
+
+-- ---- records
+
+-- a fault's number, or 0, whatever is left
+abbrev pub faultNumber : {A : Type 0} → Out A → ℕ
+faultNumber (bad n p) = n
+faultNumber (good a r) = 0
+
+-- a body leaves nothing
+abbrev Spent : Out Body → Type 0
+Spent (bad n p) = Unit
+Spent (good b r) = r ≡ []
+
+spent-ended : (p : ℕ) (b : Body) (r : List ℕ) → Spent (ended p b r)
+spent-ended p b [] = refl
+spent-ended p b (x ∷ r) = tt
+
+spent-bind : {A : Type 0} (o : Out A) (k : A → List ℕ → Out Body) → ((a : A) (r : List ℕ) → Spent (k a r)) → Spent (bind o k)
+spent-bind (bad n p) k h = tt
+spent-bind (good a r) k h = h a r
+
+spent-body : (p : Plan) (at : ℕ) (bs : List ℕ) → Spent (readBody p at bs)
+unfolding readBody
+spent-body (just f) at bs = spent-bind (read f at bs) _ (λ cs r. spent-ended _ (plain cs) r)
+spent-body (free f) at bs = spent-bind (read f at bs) _ (λ cs r. refl)
+spent-body (many f g) at bs =
+    spent-bind (read f at bs) _ (λ cs r. refuse-case Spent 5 (at + length (join cs)) _ (ltb (length r) 2) tt (λ e. spent-bind (readN g _ _ (drop 2 r)) _ (λ its q. spent-ended _ (listed cs its) q)))
+
+fault-spent : {A : Type 0} (o : Out Body) (k : Body → A) (q : List ℕ) → Spent o → faultOf o ≡ faultNumber (bind o (λ b r. good (k b) q))
+fault-spent (bad n p) k q h = refl
+fault-spent (good b r) k q h = rw h
+
+-- 3 is the number of a layout that has it
+type-body : (st : St) (l : Layout) (vs : List Value) (t : Tail) → orElse (typeRefusal l) (bodyRefusal (plan st l) vs t) ≡ bodyRefusal (plan st l) vs t
+unfolding plan bodyRefusal refusal
+type-body st (refuse n b) vs t = go (eqb n 3) refl
+  where
+    go : (u : Bool) → eqb n 3 ≡ u → orElse (cond u 3 0) (orElse n (refusal (end 0) vs)) ≡ orElse n (refusal (end 0) vs)
+    go true e = rw (eqb-true n 3 e)
+    go false e = refl
+type-body st (fields f) vs t = refl
+type-body st (unread f) vs t = refl
+type-body st (table f g) vs t = refl
+type-body st (entries f g) vs t = refl
+
+module _ (layout : ℕ → ℕ → Layout) where
+  -- the same of a record, wherever it stands and whatever follows
+  pub refuses-record : (st : St) (at : ℕ) (g : Given) (q : List ℕ) → g .stamp < 256 ^ 4 → g .type < 256 ^ 2 → g .sub < 256 ^ 2 → length (message g) < 256 ^ 4
+      → Fit (g .values) → AlignedBody (plan st (layout (g .type) (g .sub))) (g .values) (g .tail) → recordRefusal layout st g ≡ faultNumber (readRec layout st at (octets g ++ q))
+  unfolding recordRefusal octets
+  refuses-record st at g q t y u n h s =
+      let m : List ℕ = message g in
+      let r : Rec = record { stamp = g .stamp; type = g .type; sub = g .sub; body = plain [] } in
+      let p : Plan = plan st (layout (g .type) (g .sub)) in
+      let e : octets g ++ q ≡ join (head r (length m)) ++ (m ++ q) = simp append-assoc in
+      rw (e, read-message layout st at r m q t y u n)
+      (rw (zero-large 4 (g .stamp) t, zero-large 2 (g .type) y, zero-large 2 (g .sub) u, zero-large 4 (length m) n, ← (orElse-none (bodyRefusal p (g .values) (g .tail))))
+      (type-body st (layout (g .type) (g .sub)) (g .values) (g .tail)
+      ∙ refuses-as-reader p (at + 12) (g .values) (g .tail) h s ∙ fault-spent (readBody p (at + 12) m) _ q (spent-body p (at + 12) m)))

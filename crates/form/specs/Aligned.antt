@@ -16,8 +16,8 @@ Full (test n b f) vs = n ≡ 0 → Full f vs
 Full (field x l b k) [] = ⊥
 Full (field x l b k) (v ∷ vs) = (length (spelled v) ≡ l) × Full (k (spelled v)) vs
 
--- the same where a message ends with the octets raw, except that these octets and the last values may be too few for the field whose turn it is, or too
--- many for the last
+-- where nothing follows the values but the octets raw, the reader meets the same also at a wrong size: if all octets from some value on are too few for
+-- its field (5), or if the value is longer than the last field (6)
 unfoldable pub Aligned : Fmt → List Value → List ℕ → Type 0
 Aligned (end b) [] raw = raw ≡ []
 Aligned (end b) (v ∷ vs) raw = 0 < length (join (lay (v ∷ vs)) ++ raw)

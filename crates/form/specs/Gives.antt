@@ -4,7 +4,6 @@ use mathlib.Core.List.{List, [], _∷_}
 use Prim.Native.Nat.{ℕ, _^_, _<_}
 use lib.ListN.{length}
 use Rattle.form.specs.Octets.{Octets}
-use Rattle.form.specs.Fmt.{Fmt}
 use Rattle.form.specs.Body.{joins, Plan, just, free, many, Body, plain, loose, listed}
 use Rattle.form.specs.Shape.{frontOf}
 use Rattle.form.specs.Record.{Rec}
