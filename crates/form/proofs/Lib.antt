@@ -8,3 +8,7 @@ pub mod Then
 pub mod Whole
 pub mod Many
 pub mod Shape
+pub mod Put
+pub mod Given
+pub mod Alike
+pub mod Refuses

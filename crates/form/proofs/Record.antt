@@ -44,24 +44,24 @@ unfolding write
 length-write r = simp (length-append, length-toBe) (omega arith)
 
 module _ (layout : ℕ → ℕ → Layout) where
+  -- a message whose header is written is read by its type and subtype
+  pub read-message : (st : St) (at : ℕ) (r : Rec) (b q : List ℕ) → r .stamp < 256 ^ 4 → r .type < 256 ^ 2 → r .sub < 256 ^ 2 → length b < 256 ^ 4
+      → readRec layout st at (join (head r (length b)) ++ (b ++ q))
+      ≡ bind (readBody (plan st (layout (r .type) (r .sub))) (at + 12) b) (λ y p. good (record { stamp = r .stamp; type = r .type; sub = r .sub; body = y }) q)
+  unfolding readRec
+  read-message st at r b q t y u n =
+      let m : ℕ = length b in
+      let g : 12 ≤ length (join (head r m) ++ (b ++ q)) = simp (length-append, length-toBe) (omega arith) in
+      let g2 : m ≤ length (b ++ q) = simp length-append (omega arith) in
+      rw (le-ltb _ _ g, complete header at (head r m) (b ++ q) (fits-head r m))
+      (rw (be-toBe 4 m n, be-toBe 4 (r .stamp) t, be-toBe 2 (r .type) y, be-toBe 2 (r .sub) u, le-ltb _ _ g2, take-at b q m refl, drop-at b q m refl))
+
   pub complete-rec : (st : St) (at : ℕ) (r : Rec) (q : List ℕ) → Valid layout st r → readRec layout st at (write r ++ q) ≡ good r q
-  unfolding readRec write
+  unfolding write
   complete-rec st at r q v =
       let b : List ℕ = spell (r .body) in
-      let n : ℕ = length b in
-      let g : 12 ≤ length (join (head r n) ++ (b ++ q)) = simp (length-append, length-toBe) (omega arith) in
-      let g2 : n ≤ length (b ++ q) = simp length-append (omega arith) in
-      rw (append-assoc (join (head r n)) b q, le-ltb _ _ g, complete header at (head r n) (b ++ q) (fits-head r n))
-      (rw (
-        be-toBe 4 n (v .size),
-        be-toBe 4 (r .stamp) (v .stamp),
-        be-toBe 2 (r .type) (v .type),
-        be-toBe 2 (r .sub) (v .sub),
-        le-ltb _ _ g2,
-        take-at b q n refl,
-        drop-at b q n refl,
-        complete-body (plan st (layout (r .type) (r .sub))) (at + 12) (r .body) (v .fits),
-      ))
+      rw (append-assoc (join (head r (length b))) b q)
+      (read-message st at r b q (v .stamp) (v .type) (v .sub) (v .size) ∙ rw (complete-body (plan st (layout (r .type) (r .sub))) (at + 12) (r .body) (v .fits)))
 
   right-body : (st : St) (d m : List ℕ) (cs : List (List ℕ)) → Fits header cs → join cs ++ m ≡ d → number 3 cs ≤ length m → (o : Out Body)
       → RightBody (plan st (layout (number 1 cs) (number 2 cs))) (take (number 3 cs) m) o
