@@ -52,3 +52,7 @@ to-end m at n h =
     let k : length (drop at m) ≤ length m - at = simp length-drop (omega arith) in
     let l : length (drop at m) ≤ n = simp length-drop h in
     take-all (length m - at) (drop at m) k ∙ sym (take-all n (drop at m) l)
+
+-- one store more: s goes where p ends
+pub more : (out p s l k : List ℕ) (at i : ℕ) → l ≡ over out at p → k ≡ over l i s → i ≡ at + length p → at + (length p + length s) ≤ length out → k ≡ over out at (p ++ s)
+more out p s l k at i e d h b = d ∙ rw (e, h) (over-over out at p s b)

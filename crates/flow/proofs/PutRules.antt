@@ -17,6 +17,13 @@ use Rattle.flow.proofs.Rules.{inside, below, above}
 same-size : (n l : ℕ) → n ≡ l → sized n l ≡ 0
 same-size n l e = let h : l ≤ n = omega arith in let g : n ≤ l = omega arith in rw (le-ltb _ _ h, le-ltb _ _ g)
 
+-- what a test by `large` said of a number
+pub is-large : (w v : ℕ) (t : Bool) → t ≡ leb (256 ^ w) v → t ≡ true → large w v ≡ 6
+is-large w v t p q = rw (le-ltb v (256 ^ w) (leb-true (256 ^ w) v (sym p ∙ q)))
+
+pub not-large : (w v : ℕ) (t : Bool) → t ≡ leb (256 ^ w) v → t ≡ false → large w v ≡ 0
+not-large w v t p q = rw (lt-ltb v (256 ^ w) (leb-false (256 ^ w) v (sym p ∙ q)))
+
 -- a number that fits its field, and one that does not
 fits : (w v : ℕ) → leb (256 ^ w) v ≡ false → (misfit (digits w v) w ≡ 0) × (be (toBe w v) ≡ v)
 fits w v e =

@@ -8,7 +8,7 @@ use Rattle.form.specs.Fmt.{Out, bad, good, Fmt, Fits, join}
 use Rattle.form.specs.Body.{readN, joins, AllFits, Items, Plan, just, free, many, Body, plain, loose, listed, spell, BodyFits}
 use Rattle.form.specs.Shape.{Layout, refuse, fields, unread, table, entries, St, plan, frontOf}
 use Rattle.form.specs.Record.{Rec, write, readRec, Valid}
-use Rattle.form.specs.Put.{Value, large, refusal, lay, Tail, items, tailed, faultOf, bodyRefusal, Given, message, octets, typeRefusal, recordRefusal}
+use Rattle.form.specs.Put.{Value, large, refusal, lay, Tail, items, tailed, faultOf, bodyRefusal, Given, message, octets, typeRefusal, fieldsRefusal, recordRefusal}
 use Rattle.form.specs.Gives.{Fit, OctetsIn, tailOf, Shaped, Gives}
 use Rattle.form.proofs.Fmt.{Right}
 use Rattle.form.proofs.Body.{sound-n, complete-n}
@@ -86,7 +86,7 @@ body-shown (many f g) vs t e o (n, raw, d, c) =
 module _ (layout : ℕ → ℕ → Layout) where
   -- writing what was read restores the octets
   pub restores : (st : St) (g : Given) (r : Rec) → Valid layout st r → Gives g r → (recordRefusal layout st g ≡ 0) × (octets g ≡ write r)
-  unfolding recordRefusal
+  unfolding fieldsRefusal recordRefusal
   restores st g r v h =
       let p : Plan = plan st (layout (r .type) (r .sub)) in
       let b : bodyRefusal p (g .values) (tailOf (r .body)) ≡ 0 = body-valid p (r .body) (g .values) (h .fit) (h .front) (v .fits) in (
@@ -109,21 +109,21 @@ module _ (layout : ℕ → ℕ → Layout) where
   -- reading what a writer did not refuse shows what it was given
   pub shows : (st : St) (g : Given) → recordRefusal layout st g ≡ 0 → OctetsIn (g .values) → Shaped (plan st (layout (g .type) (g .sub))) (g .tail)
       → (r : Rec) × Gives g r × Valid layout st r × (write r ≡ octets g)
-  unfolding recordRefusal
+  unfolding fieldsRefusal recordRefusal
   shows st g e o s =
-      let z1 = orElse-zero (large 4 (g .stamp)) _ e in
+      let z0 = orElse-zero (fieldsRefusal layout st g) _ e in
+      let z1 = orElse-zero (large 4 (g .stamp)) _ (z0 .0) in
       let z2 = orElse-zero (large 2 (g .type)) _ (z1 .1) in
       let z3 = orElse-zero (typeRefusal (layout (g .type) (g .sub))) _ (z2 .1) in
       let z4 = orElse-zero (large 2 (g .sub)) _ (z3 .1) in
-      let z5 = orElse-zero (bodyRefusal (plan st (layout (g .type) (g .sub))) (g .values) (g .tail)) _ (z4 .1) in
-      let b = body-shown (plan st (layout (g .type) (g .sub))) (g .values) (g .tail) (z5 .0) o s in
+      let b = body-shown (plan st (layout (g .type) (g .sub))) (g .values) (g .tail) (z4 .1) o s in
       let r : Rec = record { stamp = g .stamp; type = g .type; sub = g .sub; body = b .0 } in
       let h : Gives g r = record { stamp = refl; type = refl; sub = refl; fit = b .1; front = b .2; tail = b .3 } in
       let v : Valid layout st r = record {
         stamp = large-zero 4 (g .stamp) (z1 .0);
         type = large-zero 2 (g .type) (z2 .0);
         sub = large-zero 2 (g .sub) (z4 .0);
-        size = rw (message-spell g r h) at (large-zero 4 (length (message g)) (z5 .1));
+        size = rw (message-spell g r h) at (large-zero 4 (length (message g)) (z0 .1));
         fits = b .4;
       } in
       (r, h, v, sym (octets-write g r h))

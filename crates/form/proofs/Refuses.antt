@@ -15,7 +15,7 @@ use Rattle.form.specs.Body.{readN, joins, Plan, just, free, many, Body, 
 use Rattle.form.specs.Shape.{Layout, refuse, fields, unread, table, entries, St, plan}
 use Rattle.form.specs.Record.{Rec, head, readRec}
 use Rattle.form.specs.Put.{Value, digits, bytes, spelled, orElse, misfit, refusal, lay}
-use Rattle.form.specs.Put.{Tail, nothing, carried, items, tailed, faultOf, itemsRefusal, bodyRefusal, Given, message, octets, typeRefusal, recordRefusal}
+use Rattle.form.specs.Put.{Tail, nothing, carried, items, tailed, faultOf, itemsRefusal, bodyRefusal, Given, message, octets, typeRefusal, fieldsRefusal, recordRefusal}
 use Rattle.form.specs.Gives.{FitOne, Fit}
 use Rattle.form.specs.Aligned.{Full, Aligned, Counted, AlignedBody}
 use Rattle.form.proofs.Octets.{length-toBe, be-toBe}
@@ -178,13 +178,13 @@ module _ (layout : ℕ → ℕ → Layout) where
   -- the same of a record, wherever it stands and whatever follows
   pub refuses-record : (st : St) (at : ℕ) (g : Given) (q : List ℕ) → g .stamp < 256 ^ 4 → g .type < 256 ^ 2 → g .sub < 256 ^ 2 → length (message g) < 256 ^ 4
       → Fit (g .values) → AlignedBody (plan st (layout (g .type) (g .sub))) (g .values) (g .tail) → recordRefusal layout st g ≡ faultNumber (readRec layout st at (octets g ++ q))
-  unfolding recordRefusal octets
+  unfolding fieldsRefusal recordRefusal octets
   refuses-record st at g q t y u n h s =
       let m : List ℕ = message g in
       let r : Rec = record { stamp = g .stamp; type = g .type; sub = g .sub; body = plain [] } in
       let p : Plan = plan st (layout (g .type) (g .sub)) in
       let e : octets g ++ q ≡ join (head r (length m)) ++ (m ++ q) = simp append-assoc in
       rw (e, read-message layout st at r m q t y u n)
-      (rw (zero-large 4 (g .stamp) t, zero-large 2 (g .type) y, zero-large 2 (g .sub) u, zero-large 4 (length m) n, ← (orElse-none (bodyRefusal p (g .values) (g .tail))))
-      (type-body st (layout (g .type) (g .sub)) (g .values) (g .tail)
+      (rw (zero-large 4 (g .stamp) t, zero-large 2 (g .type) y, zero-large 2 (g .sub) u, zero-large 4 (length m) n, type-body st (layout (g .type) (g .sub)) (g .values) (g .tail))
+      (sym (orElse-none (bodyRefusal p (g .values) (g .tail)))
       ∙ refuses-as-reader p (at + 12) (g .values) (g .tail) h s ∙ fault-spent (readBody p (at + 12) m) _ q (spent-body p (at + 12) m)))

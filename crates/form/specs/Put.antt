@@ -50,7 +50,8 @@ abbrev pub lay : List Value → List (List ℕ)
 lay [] = []
 lay (v ∷ vs) = spelled v ∷ lay vs
 
--- ---- a message: its fields' values, then nothing, octets that are carried, or so many items laid out
+-- ---- a message: its fields' values, then nothing, octets that are carried, or so many items laid out. Each writer gives the tail of its
+-- layout's shape (`Shaped` in specs/Gives).
 
 pub data Tail : Type 0 where
   nothing : Tail
@@ -105,12 +106,15 @@ typeRefusal (table f g) = 0
 typeRefusal (entries f g) = 0
 
 module _ (layout : ℕ → ℕ → Layout) where
-  -- the header's fields, then 4, 12 and the message's fields, last a Length past 32 bits
-  unfoldable pub recordRefusal : St → Given → ℕ
-  recordRefusal st g =
+  -- the header's fields, then 4, 12 and the message's fields
+  unfoldable pub fieldsRefusal : St → Given → ℕ
+  fieldsRefusal st g =
       orElse (large 4 (g .stamp))
       (orElse (large 2 (g .type))
       (orElse (typeRefusal (layout (g .type) (g .sub)))
       (orElse (large 2 (g .sub))
-      (orElse (bodyRefusal (plan st (layout (g .type) (g .sub))) (g .values) (g .tail))
-      (large 4 (length (message g)))))))
+      (bodyRefusal (plan st (layout (g .type) (g .sub))) (g .values) (g .tail)))))
+
+  -- last a Length past 32 bits
+  unfoldable pub recordRefusal : St → Given → ℕ
+  recordRefusal st g = orElse (fieldsRefusal st g) (large 4 (length (message g)))

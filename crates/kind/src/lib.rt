@@ -3,7 +3,7 @@ ghost use mathlib.Core.Path.{_≡_};
 ghost use Rattle.page.specs.Layout.{kind12, kind13, kind16, kind};
 use page::Kind;
 
-fn kind_12(sub: u64) -> Kind
+pub fn kind_12(sub: u64) -> Kind
     ensures { λ r. ⌜ r ≡ kind12 sub ⌝ }
 {
     match sub {
@@ -13,7 +13,7 @@ fn kind_12(sub: u64) -> Kind
     }
 }
 
-fn kind_13(sub: u64) -> Kind
+pub fn kind_13(sub: u64) -> Kind
     ensures { λ r. ⌜ r ≡ kind13 sub ⌝ }
 {
     match sub {
@@ -25,7 +25,7 @@ fn kind_13(sub: u64) -> Kind
     }
 }
 
-fn kind_16(micro: usize, sub: u64) -> Kind
+pub fn kind_16(micro: usize, sub: u64) -> Kind
     ensures { λ r. ⌜ r ≡ kind16 micro sub ⌝ }
 {
     match sub {
@@ -47,6 +47,6 @@ pub fn kind_of(ty: u64, sub: u64) -> Kind
         13 => kind_13(sub),
         16 => kind_16(0, sub),
         17 => kind_16(4, sub),
-        _ => Kind::Refused(3, 8),
+        _ => Kind::Refused(3, 4),
     }
 }

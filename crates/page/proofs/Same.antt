@@ -75,9 +75,9 @@ module _ {A : Type 0} (to : List Seen → A) (fault : ℕ → ℕ → A) (most :
   unread-body show st micro = pass-free show fault (stamped micro (end 0)) m i h
 
   -- a layout that is refused, and a RIB record with no table in force
-  pub refused-body : (st : St) (n back : ℕ) → readBody (plan st (layoutOf most (Refused (suc n) back))) i (drop i m) ≡ bad (suc n) (i - back)
+  pub refused-body : (st : St) (n place : ℕ) → readBody (plan st (layoutOf most (Refused (suc n) place))) i (drop i m) ≡ bad (suc n) (i - (12 - place))
   unfolding plan layoutOf readBody read
-  refused-body st n back = refl
+  refused-body st n place = refl
 
   pub untabled-body : (f g : Fmt) → readBody (plan noTable (entries f g)) i (drop i m) ≡ bad 12 (i - 6)
   unfolding plan readBody read

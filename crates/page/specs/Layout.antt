@@ -1,6 +1,6 @@
 -- Which layout a Type and a Subtype choose (document 01, "Record layouts"; faults 3 and 4). Assumes nothing.
 use mathlib.Core.Bool.{_||_}
-use Prim.Native.Nat.{ℕ, zero, suc}
+use Prim.Native.Nat.{ℕ, zero, suc, _-_}
 use lib.Dec.{eqb}
 use Rattle.form.specs.Fmt.{Fmt, end}
 use Rattle.form.specs.Words.{_$_, choose, num, within}
@@ -13,7 +13,7 @@ use Rattle.page.specs.Peers.{tableHead, peer}
 use Rattle.page.specs.declared.Kind.{Kind}
 use Rattle.page.specs.declared.Kind.the-variants.{Refused, Unread, TableDump, PeerTable, Rib, RibGeneric, Change, Message}
 
--- the Subtype stands 6 octets before the message, the Type 8
+-- a header's Type stands at 4, its Subtype at 6
 abbrev pub unlisted : Kind
 unlisted = Refused 4 6
 
@@ -43,7 +43,7 @@ kind type sub =
     $ choose (eqb type 13) (kind13 sub)
     $ choose (eqb type 16) (kind16 0 sub)
     $ choose (eqb type 17) (kind16 4 sub)
-    $ Refused 3 8
+    $ Refused 3 4
 
 -- microseconds, where a message has them, are its first field
 unfoldable pub stamped : (micro : ℕ) → Fmt → Fmt
@@ -52,7 +52,7 @@ stamped (suc n) f = num microseconds (suc n) λ u. f
 
 -- `most` is the longest BGP message
 unfoldable pub layoutOf : (most : ℕ) → Kind → Layout
-layoutOf most (Refused n back) = refuse n back
+layoutOf most (Refused n place) = refuse n (12 - place)
 layoutOf most (Unread micro) = unread (stamped micro (end 0))
 layoutOf most (TableDump size) = fields (tableDump size)
 layoutOf most PeerTable = table (tableHead (end 0)) peer

@@ -1,6 +1,6 @@
 // The layout that a Type and a Subtype choose. `micro` is 4 where the message starts with microseconds, else 0.
 pub enum Kind {
-    // a fault's number, and how many octets before the message its field stands
+    // a fault's number, and where its field stands in the header
     Refused(u8, usize),
     // micro
     Unread(usize),

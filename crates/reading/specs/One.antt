@@ -1,0 +1,63 @@
+-- Reading one record, from octets that start at its header and a table told (document 01, "Record layouts"). Assumes nothing.
+use mathlib.Core.List.{List}
+use Prim.Native.Nat.{ℕ, _+_, _-_}
+use lib.Dec.{eqb, ltb}
+use lib.ListN.{length, take}
+use Rattle.form.specs.Pass.{whole}
+use Rattle.form.specs.Words.{_$_, choose}
+use Rattle.num.specs.Be.{numAt}
+use Rattle.flow.specs.Field.{fieldAt}
+use Rattle.flow.specs.declared.Num.{Num}
+use Rattle.flow.specs.declared.Num.the-variants.{Value, Short}
+use Rattle.page.specs.Bgp4mp.{session, stateChange, message}
+use Rattle.page.specs.Rib.{rib, ribGeneric}
+use Rattle.page.specs.Peers.{peerTable}
+use Rattle.page.specs.TableDump.{tableDump}
+use Rattle.page.specs.Layout.{kind}
+use Rattle.page.specs.declared.Kind.{Kind}
+use Rattle.page.specs.declared.Kind.the-variants as chosen
+use Rattle.shown.specs.Told as show
+use Rattle.shown.specs.declared.Header.{Header}
+use Rattle.shown.specs.declared.Table.{Table}
+use Rattle.shown.specs.declared.Table.the-variants.{Absent, Holds}
+use Rattle.shown.specs.declared.Shown.{Shown}
+use Rattle.shown.specs.declared.Shown.the-variants.{Nothing, Refused, Unread}
+
+-- the header, with the microseconds that the message starts with
+abbrev pub header : List ℕ → (microseconds : ℕ) → Header
+header m u = record { timestamp = numAt m 0 4; ty = numAt m 4 2; subtype = numAt m 6 2; length = numAt m 8 4; microseconds = u }
+
+-- microseconds of so many octets, and where the message goes on behind them; 0 is none of them
+unfoldable pub microAt : List ℕ → ℕ → Num
+microAt m micro = choose (eqb micro 0) (Value 0 12) (fieldAt m 12 micro)
+
+unfoldable pub behind : Num → (ℕ → ℕ → Shown) → Shown
+behind (Value u at) k = k u at
+behind Short k = Refused 5 12
+
+-- a RIB record without a table: 12, at the Subtype
+unfoldable pub tabled : Table → (ℕ → Shown) → Shown
+tabled Absent k = Refused 12 6
+tabled (Holds peers) k = k peers
+
+-- m is a record from its header to its last octet; `most` is the longest BGP message
+unfoldable pub shownAs : (most : ℕ) → Table → List ℕ → Kind → Shown
+shownAs most t m (chosen.Refused n place) = Refused n place
+shownAs most t m (chosen.Unread micro) = behind (microAt m micro) λ u at. Unread (header m u) (show.restFrom m at)
+shownAs most t m (chosen.TableDump size) = whole (show.tableDump (header m 0)) Refused (tableDump size) m 12
+shownAs most t m chosen.PeerTable = whole (show.peerTable (header m 0) m) Refused peerTable m 12
+shownAs most t m (chosen.Rib bits) = tabled t λ peers. whole (show.rib (header m 0) m) Refused (rib bits peers) m 12
+shownAs most t m chosen.RibGeneric = tabled t λ peers. whole (show.ribGeneric (header m 0) m) Refused (ribGeneric peers) m 12
+shownAs most t m (chosen.Change micro w) = behind (microAt m micro) λ u at. whole (show.change (header m u)) Refused (session w stateChange) m at
+shownAs most t m (chosen.Message micro w) = behind (microAt m micro) λ u at. whole (show.message (header m u)) Refused (session w (message most)) m at
+
+unfoldable pub wholeRecord : (most : ℕ) → Table → List ℕ → Shown
+wholeRecord most t m = shownAs most t m (kind (numAt m 4 2) (numAt m 6 2))
+
+-- octets behind the record are not looked at
+unfoldable pub readOne : (most : ℕ) → Table → List ℕ → Shown
+readOne most t s =
+    choose (eqb (length s) 0) Nothing
+    $ choose (ltb (length s) 12) (Refused 1 0)
+    $ choose (ltb (length s - 12) (numAt s 8 4)) (Refused 2 0)
+    $ wholeRecord most t (take (12 + numAt s 8 4) s)

@@ -1,0 +1,4 @@
+pub mod Times
+pub mod Verdict
+pub mod Only
+pub mod Givens

@@ -1,0 +1,63 @@
+-- Each writer writes the records of one layout: a Subtype that has another is not listed to it (4), and to the writer of unread contents
+-- such a Type is not (3). Assumes nothing.
+use Prim.Native.Nat.{ℕ, _+_}
+use lib.Dec.{eqb}
+use Rattle.form.specs.Shape.{Layout}
+use Rattle.form.specs.Words.{choose}
+use Rattle.page.specs.Layout.{kind, layoutOf, unlisted}
+use Rattle.page.specs.declared.Kind.{Kind}
+use Rattle.page.specs.declared.Kind.the-variants.{Refused, Unread, TableDump, PeerTable, Rib, RibGeneric, Change, Message}
+
+-- the writers, by number; unread contents behind so many octets of microseconds have one each
+abbrev pub tableDumps : ℕ
+tableDumps = 1
+
+abbrev pub peerTables : ℕ
+peerTables = 2
+
+abbrev pub ribs : ℕ
+ribs = 3
+
+abbrev pub genericRibs : ℕ
+genericRibs = 4
+
+abbrev pub changes : ℕ
+changes = 5
+
+abbrev pub messages : ℕ
+messages = 6
+
+abbrev pub unreads : (micro : ℕ) → ℕ
+unreads micro = 7 + micro
+
+-- whose a kind is
+abbrev pub writer : Kind → ℕ
+writer (Refused n p) = 0
+writer (Unread micro) = unreads micro
+writer (TableDump size) = tableDumps
+writer PeerTable = peerTables
+writer (Rib bits) = ribs
+writer RibGeneric = genericRibs
+writer (Change micro w) = changes
+writer (Message micro w) = messages
+
+-- the layouts of one writer
+abbrev pub only : (writes : ℕ) (other : Kind) (most type sub : ℕ) → Layout
+only n other most type sub = layoutOf most (choose (eqb (writer (kind type sub)) n) (kind type sub) other)
+
+abbrev pub onlySub : (writes most type sub : ℕ) → Layout
+onlySub n = only n unlisted
+
+abbrev pub onlyType : (writes most type sub : ℕ) → Layout
+onlyType n = only n (Refused 3 4)
+
+-- octets of an AS number
+abbrev pub asOctets : Kind → ℕ
+asOctets (Refused n p) = 0
+asOctets (Unread micro) = 0
+asOctets (TableDump size) = 2
+asOctets PeerTable = 0
+asOctets (Rib bits) = 0
+asOctets RibGeneric = 0
+asOctets (Change micro w) = w
+asOctets (Message micro w) = w

@@ -1,0 +1,93 @@
+// What every writer shares: the verdict, and a record's header laid into the buffer.
+ghost use mathlib.Core.Path.{_≡_};
+ghost use mathlib.Core.List.{_++_};
+ghost use Prim.Native.Nat.{_+_, _≤_};
+ghost use lib.ListN.{length};
+ghost use Rattle.form.specs.Octets.{toBe};
+ghost use Rattle.form.specs.Put.{orElse};
+ghost use Rattle.form.specs.Put as put;
+ghost use Rattle.copy.specs.Over.{over};
+ghost use Rattle.writing.specs.Verdict.{capped, verdictOf};
+ghost use Rattle.writing.specs.Times.{stampOf, microOf};
+use flow::large;
+use num::put_number;
+
+// A record's time: a Timestamp, or one with microseconds.
+pub enum Time {
+    Seconds(u64),
+    Micro(u64, u64),
+}
+
+// How many octets were written, or the number of the refusal. The place is 0 in both cases.
+pub enum Written {
+    Octets(usize),
+    Refused(u8),
+}
+
+pub fn seconds(t: Time) -> u64
+    ensures { λ r. ⌜ r ≡ stampOf t ⌝ }
+{
+    match t {
+        Time::Seconds(s) => s,
+        Time::Micro(s, _) => s,
+    }
+}
+
+// Octets of the microseconds.
+pub fn micro(t: Time) -> usize
+    ensures { λ r. ⌜ r ≡ microOf t ⌝ }
+{
+    match t {
+        Time::Seconds(_) => 0,
+        Time::Micro(_, _) => 4,
+    }
+}
+
+// The sum, or the largest number where it is past that.
+pub fn add(a: usize, b: usize) -> usize
+    ensures { λ r. ⌜ r ≡ capped (a + b) ⌝ }
+{
+    if 18446744073709551615 - a < b {
+        return 18446744073709551615;
+    }
+    a + b
+}
+
+// The Timestamp and the Subtype, where the Type is listed.
+pub fn head_refusal(timestamp: u64, subtype: u64) -> u8
+    ensures { λ r. ⌜ r ≡ orElse (put.large 4 timestamp) (put.large 2 subtype) ⌝ }
+{
+    if large(timestamp, 4) {
+        return 6;
+    }
+    if large(subtype, 2) {
+        return 6;
+    }
+    0
+}
+
+// The answer of a writer that refuses its fields with `refused` (0: it does not), for a message of `size` octets and a buffer of `room`.
+pub fn verdict(refused: u8, size: usize, room: usize) -> Written
+    ensures { λ r. ⌜ r ≡ verdictOf refused size room ⌝ }
+{
+    if 0 < refused {
+        return Written::Refused(refused);
+    }
+    if 4294967295 < size {
+        return Written::Refused(6);
+    }
+    if room < 12 + size {
+        return Written::Refused(15);
+    }
+    Written::Octets(12 + size)
+}
+
+pub fn put_head(out: &mut [u8], timestamp: u64, ty: u64, subtype: u64, size: u64)
+    requires { ⌜ 12 ≤ length (now out) ⌝ }
+    ensures { λ _. ⌜ now (out .exit) ≡ over (now (out .entry)) 0 (toBe 4 timestamp ++ (toBe 2 ty ++ (toBe 2 subtype ++ toBe 4 size))) ⌝ }
+{
+    put_number(out, 0, 4, timestamp);
+    put_number(out, 4, 2, ty);
+    put_number(out, 6, 2, subtype);
+    put_number(out, 8, 4, size);
+}
