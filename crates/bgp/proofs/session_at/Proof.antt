@@ -69,32 +69,40 @@ addresses-at-requires-2 c κs = search needs
 returns-6 : tie.Need-returns-6
 unfolding session
 returns-6 c =
-    let h1 = c .before .before .before .before .before .before .before .before .before .before .before .before .before .before .before .before .before .before .field .ensures in
-    let h2 = c .before .before .before .before .before .before .before .before .before .before .before .before .before .before .before .before .peer .given .1 in
-    let h3 = c .before .before .before .before .before .before .before .before .before .before .before .before .before .before .field2 .ensures in
-    let h4 = c .before .before .before .before .before .before .before .before .before .before .before .before .local .given .1 in
-    let h5 = c .before .before .before .before .before .before .before .before .before .before .field3 .ensures in
-    let h6 = c .before .before .before .before .before .before .before .before .interface .given .1 in
-    let h7 = c .before .before .before .before .before .before .field4 .ensures in
-    let h8 = c .before .before .before .before .family .given .1 in
-    let h9 = c .before .before .if1 .left in
-    let h10 = c .before .if2 .taken in
-    let h11 = c .addresses-at2 .ensures in
+    let at-family = c .before .before .before .before in
+    let at-interface = at-family .before .before .before .before in
+    let at-local = at-interface .before .before .before .before in
+    let at-peer = at-local .before .before .before .before in
+    let family = at-family .family .given .1 in
+    let family-read = at-family .before .before .field4 .ensures in
+    let interface = at-interface .interface .given .1 in
+    let interface-read = at-interface .before .before .field3 .ensures in
+    let local = at-local .local .given .1 in
+    let local-read = at-local .before .before .field2 .ensures in
+    let peer = at-peer .peer .given .1 in
+    let peer-read = at-peer .before .before .field .ensures in
+    let no = c .before .before .if1 .left in
+    let yes = c .before .if2 .taken in
+    let told = c .addresses-at2 .ensures in
     search flow depth 12
 
 returns-7 : tie.Need-returns-7
 unfolding session
 returns-7 c =
-    let h1 = c .before .before .before .before .before .before .before .before .before .before .before .before .before .before .before .before .before .field .ensures in
-    let h2 = c .before .before .before .before .before .before .before .before .before .before .before .before .before .before .before .peer .given .1 in
-    let h3 = c .before .before .before .before .before .before .before .before .before .before .before .before .before .field2 .ensures in
-    let h4 = c .before .before .before .before .before .before .before .before .before .before .before .local .given .1 in
-    let h5 = c .before .before .before .before .before .before .before .before .before .field3 .ensures in
-    let h6 = c .before .before .before .before .before .before .before .interface .given .1 in
-    let h7 = c .before .before .before .before .before .field4 .ensures in
-    let h8 = c .before .before .before .family .given .1 in
-    let h9 = c .before .if1 .left in
-    let h10 = c .if2 .left in
+    let at-family = c .before .before .before in
+    let at-interface = at-family .before .before .before .before in
+    let at-local = at-interface .before .before .before .before in
+    let at-peer = at-local .before .before .before .before in
+    let family = at-family .family .given .1 in
+    let family-read = at-family .before .before .field4 .ensures in
+    let interface = at-interface .interface .given .1 in
+    let interface-read = at-interface .before .before .field3 .ensures in
+    let local = at-local .local .given .1 in
+    let local-read = at-local .before .before .field2 .ensures in
+    let peer = at-peer .peer .given .1 in
+    let peer-read = at-peer .before .before .field .ensures in
+    let no = c .before .if1 .left in
+    let neither = c .if2 .left in
     search flow depth 12
 
 pub session-at-spec : {M : Type 1} → statement M
