@@ -1,3 +1,4 @@
+-- `bgp::addresses_at` meets its contract: `changes` chooses the format and what its fields tell. Assumes nothing.
 use denote.Ref.{now}
 use Rattle.page.specs.Bgp4mp.{addresses, stateChange, message}
 use Rattle.shown.specs.Told.{changed, told}
@@ -40,9 +41,11 @@ states-requires c κs = search needs
 returns-3 : tie.Need-returns-3
 unfolding addresses
 returns-3 c =
-    let g = c .before .before .before .before .before .before .before .before .before .before .before .args in
-    let s : Session = record { peer = g .peer; local = g .local; interface = g .interface; family = g .family; theirs = record { at = g .at; size = g .size }; ours = record { at = c .before .before .before .before .before .before .before .a .given .0 .0; size = g .size } } in
-    let t = tells-first Refused (now (g .m)) (g .changes) (c .before .before .before .b .given .0 .0) stateChange (message (g .most)) (changed (g .h) s) (told (g .h) s) _ (c .before .if1 .taken) (c .states .ensures) in
+    let at-b = c .before .before .before in
+    let at-a = at-b .before .before .before .before in
+    let g = at-a .before .before .before .before .args in
+    let s : Session = record { peer = g .peer; local = g .local; interface = g .interface; family = g .family; theirs = record { at = g .at; size = g .size }; ours = record { at = at-a .a .given .0 .0; size = g .size } } in
+    let t = tells-first Refused (now (g .m)) (g .changes) (at-b .b .given .0 .0) stateChange (message (g .most)) (changed (g .h) s) (told (g .h) s) _ (c .before .if1 .taken) (c .states .ensures) in
     search flow depth 12
 
 message-at-requires : tie.Need-message-at-requires
@@ -51,9 +54,11 @@ message-at-requires c κs = search needs
 returns-4 : tie.Need-returns-4
 unfolding addresses
 returns-4 c =
-    let g = c .before .before .before .before .before .before .before .before .before .before .before .args in
-    let s : Session = record { peer = g .peer; local = g .local; interface = g .interface; family = g .family; theirs = record { at = g .at; size = g .size }; ours = record { at = c .before .before .before .before .before .before .before .a .given .0 .0; size = g .size } } in
-    let t = tells-second Refused (now (g .m)) (g .changes) (c .before .before .before .b .given .0 .0) stateChange (message (g .most)) (changed (g .h) s) (told (g .h) s) _ (c .before .if1 .left) (c .message-at .ensures) in
+    let at-b = c .before .before .before in
+    let at-a = at-b .before .before .before .before in
+    let g = at-a .before .before .before .before .args in
+    let s : Session = record { peer = g .peer; local = g .local; interface = g .interface; family = g .family; theirs = record { at = g .at; size = g .size }; ours = record { at = at-a .a .given .0 .0; size = g .size } } in
+    let t = tells-second Refused (now (g .m)) (g .changes) (at-b .b .given .0 .0) stateChange (message (g .most)) (changed (g .h) s) (told (g .h) s) _ (c .before .if1 .left) (c .message-at .ensures) in
     search flow depth 12
 
 pub addresses-at-spec : {M : Type 1} → statement M

@@ -1,3 +1,4 @@
+-- `bgp::bgp_message` meets its contract: `session_at` told which of the two to read. Assumes nothing.
 use Rattle.form.specs.Words.{choose}
 use borrow.Author.Needs.{needs}
 use Rattle.bgp.proofs.bgp_message.Statement.{statement}

@@ -1,3 +1,4 @@
+-- `bgp::session_at` meets its contract. The last returns name the facts of their reads, too many for `search` to find. Assumes nothing.
 use Rattle.page.specs.Bgp4mp.{session}
 use Rattle.flow.proofs.Rules.{flow}
 use borrow.Author.Needs.{needs}

@@ -1,3 +1,4 @@
+-- `bgp::state_change` meets its contract: `session_at` told which of the two to read. Assumes nothing.
 use Rattle.form.specs.Words.{choose}
 use borrow.Author.Needs.{needs}
 use Rattle.bgp.proofs.state_change.Statement.{statement}

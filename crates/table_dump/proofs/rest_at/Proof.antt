@@ -1,3 +1,4 @@
+-- `table_dump::rest_at` meets its contract. The last return names the facts of its reads, too many for `search` to find. Assumes nothing.
 use Rattle.page.specs.Rib.{attributes}
 use Rattle.page.specs.TableDump.{tableDumpRest}
 use Rattle.flow.proofs.Rules.{flow}
