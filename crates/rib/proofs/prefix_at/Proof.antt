@@ -1,7 +1,7 @@
--- A prefix, the count and the entries; the last return by hand, for what is shown comes from two calls.
+-- A prefix, the count and the entries. The last return: what is shown is what two calls answered.
+use Rattle.form.specs.Pass.{pass}
 use Rattle.page.specs.Rib.{prefix, entryList}
-use Rattle.flow.proofs.Rules.{flow, right, skip-there, num-there}
-use borrow.Author.Tests.{le-leb}
+use Rattle.flow.proofs.Rules.{flow}
 use borrow.Author.Needs.{needs}
 use Rattle.rib.proofs.prefix_at.Statement.{statement}
 use Rattle.rib.proofs.prefix_at.Tie as tie
@@ -62,15 +62,8 @@ entries-at-requires : tie.Need-entries-at-requires
 entries-at-requires c κs = search needs
 
 returns-5 : tie.Need-returns-5
-unfolding prefix entryList
-returns-5 c =
-    let n = c .before .before .before .before in
-    let o = n .before .before .before .before in
-    let t = o .before .before .before in
-    let h = rw (c .before .shown-as .ensures, c .before .before .left .ensures) at (c .entries-at .ensures) in
-    right _ _ _ _ _ _ _ _ _ _ _ _ _ (t .before .before .before .before .field .ensures) (t .before .before .bits .given .1) (le-leb _ _ (t .if1 .left))
-    (skip-there _ _ _ _ _ _ _ _ _ _ (o .before .before .skip .ensures) (o .d .given .1)
-    (num-there _ _ _ _ _ _ _ _ _ _ _ (n .before .before .field2 .ensures) (n .count .given .1) h))
+unfolding prefix entryList pass
+returns-5 c = let h = rw (c .before .shown-as .ensures, c .before .before .left .ensures) at (c .entries-at .ensures) in search flow depth 12
 
 pub prefix-at-spec : {M : Type 1} → statement M
 prefix-at-spec =
