@@ -51,11 +51,11 @@ onlySub n = only n unlisted
 abbrev pub onlyType : (writes most type sub : ℕ) → Layout
 onlyType n = only n (Refused 3 4)
 
--- octets of an AS number
+-- octets of an AS number in a session; 0 where there is none
 abbrev pub asOctets : Kind → ℕ
 asOctets (Refused n p) = 0
 asOctets (Unread micro) = 0
-asOctets (TableDump size) = 2
+asOctets (TableDump size) = 0
 asOctets PeerTable = 0
 asOctets (Rib bits) = 0
 asOctets RibGeneric = 0

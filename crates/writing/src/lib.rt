@@ -1,14 +1,16 @@
 // What every writer shares: the verdict, and a record's header laid into the buffer.
 ghost use mathlib.Core.Path.{_≡_};
-ghost use mathlib.Core.List.{_++_};
+ghost use mathlib.Core.List.{List, _++_};
 ghost use Prim.Native.Nat.{_+_, _≤_};
 ghost use lib.ListN.{length};
 ghost use Rattle.form.specs.Octets.{toBe};
-ghost use Rattle.form.specs.Put.{orElse};
+ghost use Rattle.form.specs.Fmt.{Fmt, join};
+ghost use Rattle.form.specs.Put.{Value, orElse, refusal, lay};
 ghost use Rattle.form.specs.Put as put;
+ghost use Rattle.page.specs.Layout.{stamped};
 ghost use Rattle.copy.specs.Over.{over};
 ghost use Rattle.writing.specs.Verdict.{capped, verdictOf};
-ghost use Rattle.writing.specs.Times.{stampOf, microOf};
+ghost use Rattle.writing.specs.Times.{stampOf, microOf, micros, bgp4mp};
 use flow::large;
 use num::put_number;
 
@@ -40,6 +42,32 @@ pub fn micro(t: Time) -> usize
     match t {
         Time::Seconds(_) => 0,
         Time::Micro(_, _) => 4,
+    }
+}
+
+pub fn bgp_type(t: Time) -> u64
+    ensures { λ r. ⌜ r ≡ bgp4mp t ⌝ }
+{
+    match t {
+        Time::Seconds(_) => 16,
+        Time::Micro(_, _) => 17,
+    }
+}
+
+// The microseconds, where there are any, before fields that are refused with `rest`.
+pub fn stamped_refusal(t: Time, rest: u8) -> u8
+    ensures { λ r. ⌜ ((f : Fmt) (vs : List Value) → rest ≡ refusal f vs → r ≡ refusal (stamped (microOf t) f) (micros t ++ vs)) ⌝ }
+{
+    match t {
+        Time::Seconds(_) => {
+            return rest;
+        }
+        Time::Micro(_, u) => {
+            if large(u, 4) {
+                return 6;
+            }
+            return rest;
+        }
     }
 }
 
@@ -90,4 +118,20 @@ pub fn put_head(out: &mut [u8], timestamp: u64, ty: u64, subtype: u64, size: u64
     put_number(out, 4, 2, ty);
     put_number(out, 6, 2, subtype);
     put_number(out, 8, 4, size);
+}
+
+// Lays the microseconds, where there are any, behind the header; answers where the message goes on.
+pub fn put_micros(out: &mut [u8], t: Time) -> usize
+    requires { ⌜ 12 + microOf t ≤ length (now out) ⌝ }
+    ensures { λ r. ⌜ (r ≡ 12 + microOf t) × (now (out .exit) ≡ over (now (out .entry)) 12 (join (lay (micros t)))) ⌝ }
+{
+    match t {
+        Time::Seconds(_) => {
+            return 12;
+        }
+        Time::Micro(_, u) => {
+            put_number(out, 12, 4, u);
+            return 16;
+        }
+    }
 }

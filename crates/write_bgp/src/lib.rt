@@ -1,0 +1,318 @@
+// Writing types 16 and 17: state changes and BGP messages.
+ghost use mathlib.Core.Path.{_≡_};
+ghost use mathlib.Core.List.{List, [], _∷_};
+ghost use Prim.Native.Nat.{_+_, _≤_};
+ghost use lib.ListN.{length};
+ghost use Rattle.form.specs.Fmt.{Fmt, join};
+ghost use Rattle.form.specs.Put.{Value, bytes, refusal, lay, fieldsRefusal};
+ghost use Rattle.form.specs.Shape.{noTable};
+ghost use Rattle.page.specs.Bgp4mp.{session, addresses, stateChange, message};
+ghost use Rattle.copy.specs.Over.{over};
+ghost use Rattle.page.specs.Layout.{kind};
+ghost use Rattle.writing.specs.Times.{bgp4mp};
+ghost use Rattle.writing.specs.Only.{onlySub, changes, messages, asOctets};
+ghost use Rattle.writing.specs.Givens.{sessionValues, stateValues, bgpValues, changeGiven, messageGiven};
+ghost use Rattle.writing.specs.Verdict.{answers, leaves};
+use bgp::message_at;
+use copy::put_bytes;
+use flow::large;
+use kind::kind_16;
+use num::put_number;
+use page::Kind;
+use shown::Header;
+use shown::Part;
+use shown::Session;
+use shown::Shown;
+use writing::Time;
+use writing::Written;
+use writing::add;
+use writing::bgp_type;
+use writing::head_refusal;
+use writing::micro;
+use writing::put_head;
+use writing::put_micros;
+use writing::seconds;
+use writing::stamped_refusal;
+use writing::verdict;
+
+fn states_refusal(old: u64, new: u64) -> u8
+    ensures { λ r. ⌜ r ≡ refusal stateChange (stateValues old new) ⌝ }
+{
+    if large(old, 2) {
+        return 6;
+    }
+    if old < 1 {
+        return 9;
+    }
+    if 6 < old {
+        return 9;
+    }
+    if large(new, 2) {
+        return 6;
+    }
+    if new < 1 {
+        return 9;
+    }
+    if 6 < new {
+        return 9;
+    }
+    0
+}
+
+// A BGP message is judged by the reader, as it stands.
+fn message_refusal(b: &[u8]) -> u8
+    ensures { λ r. ⌜ r ≡ refusal (message 4096) (bgpValues (now (b .entry))) ⌝ }
+{
+    let none = Part { at: 0, size: 0 };
+    let h = Header {
+        timestamp: 0,
+        ty: 0,
+        subtype: 0,
+        length: 0,
+        microseconds: 0,
+    };
+    let s = Session {
+        peer: 0,
+        local: 0,
+        interface: 0,
+        family: 0,
+        theirs: none,
+        ours: none,
+    };
+    let Shown::Refused(n, _) = message_at(b, 0, 4096, h, s) else {
+        return 0;
+    };
+    n
+}
+
+// The addresses, before fields that are refused with `rest`.
+fn addresses_refusal(size: usize, theirs: &[u8], ours: &[u8], rest: u8) -> u8
+    ensures { λ r. ⌜ ((f : Fmt) (vs : List Value) → rest ≡ refusal f vs → r ≡ refusal (addresses size f) (bytes (now (theirs .entry)) ∷ bytes (now (ours .entry)) ∷ vs)) ⌝ }
+{
+    if theirs.len() < size {
+        return 5;
+    }
+    if size < theirs.len() {
+        return 6;
+    }
+    if ours.len() < size {
+        return 5;
+    }
+    if size < ours.len() {
+        return 6;
+    }
+    rest
+}
+
+// A session, before fields that are refused with `rest`.
+fn session_refusal(
+    width: usize,
+    peer: u64,
+    local: u64,
+    interface: u64,
+    family: u64,
+    theirs: &[u8],
+    ours: &[u8],
+    rest: u8,
+) -> u8
+    requires { ⌜ width ≤ 4 ⌝ }
+    ensures { λ r. ⌜ ((f : Fmt) (vs : List Value) → rest ≡ refusal f vs → r ≡ refusal (session width f) (sessionValues width peer local interface family (now (theirs .entry)) (now (ours .entry)) vs)) ⌝ }
+{
+    if large(peer, width) {
+        return 6;
+    }
+    if large(local, width) {
+        return 6;
+    }
+    if large(interface, 2) {
+        return 6;
+    }
+    if large(family, 2) {
+        return 6;
+    }
+    if family == 1 {
+        return addresses_refusal(4, theirs, ours, rest);
+    }
+    if family == 2 {
+        return addresses_refusal(16, theirs, ours, rest);
+    }
+    7
+}
+
+fn change_refusal(
+    time: Time,
+    subtype: u64,
+    peer: u64,
+    local: u64,
+    interface: u64,
+    family: u64,
+    theirs: &[u8],
+    ours: &[u8],
+    old: u64,
+    new: u64,
+) -> u8
+    ensures { λ r. ⌜ r ≡ fieldsRefusal (onlySub changes 4096) noTable (changeGiven time subtype peer local interface family (now (theirs .entry)) (now (ours .entry)) old new) ⌝ }
+{
+    let n = head_refusal(seconds(time), subtype);
+    if 0 < n {
+        return n;
+    }
+    let Kind::Change(_, width) = kind_16(micro(time), subtype) else {
+        return 4;
+    };
+    let states = states_refusal(old, new);
+    stamped_refusal(
+        time,
+        session_refusal(width, peer, local, interface, family, theirs, ours, states),
+    )
+}
+
+fn bgp_refusal(
+    time: Time,
+    subtype: u64,
+    peer: u64,
+    local: u64,
+    interface: u64,
+    family: u64,
+    theirs: &[u8],
+    ours: &[u8],
+    message: &[u8],
+) -> u8
+    ensures { λ r. ⌜ r ≡ fieldsRefusal (onlySub messages 4096) noTable (messageGiven time subtype peer local interface family (now (theirs .entry)) (now (ours .entry)) (now (message .entry))) ⌝ }
+{
+    let n = head_refusal(seconds(time), subtype);
+    if 0 < n {
+        return n;
+    }
+    let Kind::Message(_, width) = kind_16(micro(time), subtype) else {
+        return 4;
+    };
+    let rest = message_refusal(message);
+    stamped_refusal(
+        time,
+        session_refusal(width, peer, local, interface, family, theirs, ours, rest),
+    )
+}
+
+// Lays a session from `at` on; answers where it ends.
+fn put_session(
+    out: &mut [u8],
+    at: usize,
+    width: usize,
+    peer: u64,
+    local: u64,
+    interface: u64,
+    family: u64,
+    theirs: &[u8],
+    ours: &[u8],
+) -> usize
+    requires { ⌜ at + (width + (width + (4 + (length (now theirs) + length (now ours))))) ≤ length (now out) ⌝ }
+    ensures { λ r. ⌜ (r ≡ at + (width + (width + (4 + (length (now (theirs .entry)) + length (now (ours .entry))))))) × (now (out .exit) ≡ over (now (out .entry)) at (join (lay (sessionValues width peer local interface family (now (theirs .entry)) (now (ours .entry)) [])))) ⌝ }
+{
+    let b = at + width;
+    let d = b + width;
+    let e = d + 4;
+    let g = e + theirs.len();
+    put_number(out, at, width, peer);
+    put_number(out, b, width, local);
+    put_number(out, d, 2, interface);
+    put_number(out, d + 2, 2, family);
+    put_bytes(theirs, out, e);
+    put_bytes(ours, out, g);
+    g + ours.len()
+}
+
+// Octets of an AS number in a state change or BGP message of this Subtype.
+fn width_of(time: Time, subtype: u64) -> usize
+    ensures { λ r. ⌜ (r ≡ asOctets (kind (bgp4mp time) subtype)) × (r ≤ 4) ⌝ }
+{
+    match kind_16(micro(time), subtype) {
+        Kind::Change(_, width) => width,
+        Kind::Message(_, width) => width,
+        _ => 0,
+    }
+}
+
+// A state change, of type 16, or 17 with microseconds.
+pub fn write_change(
+    time: Time,
+    subtype: u64,
+    peer: u64,
+    local: u64,
+    interface: u64,
+    family: u64,
+    theirs: &[u8],
+    ours: &[u8],
+    old: u64,
+    new: u64,
+    out: &mut [u8],
+) -> Written
+    ensures { λ r. ⌜ (r ≡ answers (onlySub changes 4096) noTable (changeGiven time subtype peer local interface family (now (theirs .entry)) (now (ours .entry)) old new) (now (out .entry))) × (now (out .exit) ≡ leaves (onlySub changes 4096) noTable (changeGiven time subtype peer local interface family (now (theirs .entry)) (now (ours .entry)) old new) (now (out .entry))) ⌝ }
+{
+    let n = change_refusal(
+        time,
+        subtype,
+        peer,
+        local,
+        interface,
+        family,
+        theirs,
+        ours,
+        old,
+        new,
+    );
+    let width = width_of(time, subtype);
+    let size = add(add(micro(time) + 2 * width + 8, theirs.len()), ours.len());
+    let v = verdict(n, size, out.len());
+    let Written::Octets(_) = v else {
+        return v;
+    };
+    put_head(out, seconds(time), bgp_type(time), subtype, size as u64);
+    let a = put_micros(out, time);
+    let b = put_session(out, a, width, peer, local, interface, family, theirs, ours);
+    put_number(out, b, 2, old);
+    put_number(out, b + 2, 2, new);
+    v
+}
+
+// A BGP message, of type 16, or 17 with microseconds.
+pub fn write_message(
+    time: Time,
+    subtype: u64,
+    peer: u64,
+    local: u64,
+    interface: u64,
+    family: u64,
+    theirs: &[u8],
+    ours: &[u8],
+    message: &[u8],
+    out: &mut [u8],
+) -> Written
+    ensures { λ r. ⌜ (r ≡ answers (onlySub messages 4096) noTable (messageGiven time subtype peer local interface family (now (theirs .entry)) (now (ours .entry)) (now (message .entry))) (now (out .entry))) × (now (out .exit) ≡ leaves (onlySub messages 4096) noTable (messageGiven time subtype peer local interface family (now (theirs .entry)) (now (ours .entry)) (now (message .entry))) (now (out .entry))) ⌝ }
+{
+    let n = bgp_refusal(
+        time,
+        subtype,
+        peer,
+        local,
+        interface,
+        family,
+        theirs,
+        ours,
+        message,
+    );
+    let width = width_of(time, subtype);
+    let size = add(
+        add(add(micro(time) + 2 * width + 4, theirs.len()), ours.len()),
+        message.len(),
+    );
+    let v = verdict(n, size, out.len());
+    let Written::Octets(_) = v else {
+        return v;
+    };
+    put_head(out, seconds(time), bgp_type(time), subtype, size as u64);
+    let a = put_micros(out, time);
+    let b = put_session(out, a, width, peer, local, interface, family, theirs, ours);
+    put_bytes(message, out, b);
+    v
+}

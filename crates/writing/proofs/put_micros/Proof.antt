@@ -1,0 +1,36 @@
+-- `writing::put_micros` meets its contract. Assumes nothing.
+use mathlib.Core.Path.{_≡_, refl, sym, ap, _∙_}
+use mathlib.Core.List.{append-nil}
+use Rattle.copy.specs.Over.{over}
+use Rattle.copy.proofs.Laws.{over-none}
+use borrow.Author.Needs.{needs}
+use Rattle.writing.proofs.put_micros.Statement.{statement}
+use Rattle.writing.proofs.put_micros.Tie as tie
+
+enum-told : tie.Need-enum-told
+enum-told c = search needs
+
+returns : tie.Need-returns
+returns c =
+    let p = rw (c .enum-told .given .1) at (c .before .before .before .pre) in
+    rw (c .enum-told .given .1) (refl, sym (over-none _ 12 p))
+
+enum-known-t : tie.Need-enum-known-t
+enum-known-t c = search needs
+
+put-number-requires : tie.Need-put-number-requires
+put-number-requires c κs =
+    let p = rw (c .before .before .t .given .1) at (c .before .before .before .before .before .pre) in
+    search needs
+
+same-length : tie.Need-same-length
+same-length c = search needs
+
+returns-2 : tie.Need-returns-2
+returns-2 c =
+    let e = c .before .before .before .before .before .t .given .1 in
+    rw e (refl, c .before .before .put-number .ensures ∙ ap (over _ 12) (sym (append-nil _)))
+
+pub put-micros-spec : {M : Type 1} → statement M
+put-micros-spec =
+    tie.close (tie.spec enum-told returns enum-known-t put-number-requires same-length returns-2)
