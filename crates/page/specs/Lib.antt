@@ -5,3 +5,4 @@ pub mod Rib
 pub mod TableDump
 pub mod Peers
 pub mod Layout
+pub mod Sane

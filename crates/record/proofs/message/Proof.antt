@@ -1,0 +1,41 @@
+-- `record::message` meets its contract. Assumes nothing.
+use Rattle.reading.specs.One.{shownAs}
+use Rattle.record.proofs.Laws.{behind-value, behind-short}
+use borrow.Author.Needs.{needs}
+use Rattle.record.proofs.message.Statement.{statement}
+use Rattle.record.proofs.message.Tie as tie
+
+micro-at-requires : tie.Need-micro-at-requires
+micro-at-requires c κs = search needs
+
+enum-known-u : tie.Need-enum-known-u
+enum-known-u c = search needs
+
+enum-told : tie.Need-enum-told
+enum-told c = search needs
+
+returns : tie.Need-returns
+unfolding shownAs
+returns c = behind-short _ _ _ (c .before .before .micro-at .ensures) (c .enum-told .given .1)
+
+header-of-requires : tie.Need-header-of-requires
+header-of-requires c κs = search needs
+
+bgp-message-requires : tie.Need-bgp-message-requires
+bgp-message-requires c κs = search needs
+
+returns-2 : tie.Need-returns-2
+unfolding shownAs
+returns-2 c = behind-value _ _ _ (c .before .before .before .before .before .micro-at .ensures) _ _ _ (c .before .before .before .u .given .1) (rw (c .before .header-of .ensures) at (c .bgp-message .ensures))
+
+pub message-spec : {M : Type 1} → statement M
+message-spec =
+    tie.close
+    (tie.spec
+    micro-at-requires
+    enum-known-u
+    enum-told
+    returns
+    header-of-requires
+    bgp-message-requires
+    returns-2)

@@ -1,0 +1,155 @@
+// Reading one record.
+ghost use mathlib.Core.Path.{_≡_};
+ghost use Prim.Native.Nat.{_≤_};
+ghost use lib.ListN.{length};
+ghost use Rattle.page.specs.Sane.{Sane};
+ghost use Rattle.reading.specs.One.{header, microAt, shownAs, wholeRecord, readOne};
+ghost use Rattle.reading.specs.Answer as answer;
+ghost use Rattle.page.specs.declared.Kind.the-variants as chosen;
+use bgp::bgp_message;
+use bgp::state_change;
+use flow::Num;
+use flow::field;
+use flow::left;
+use kind::kind_of;
+use num::number;
+use page::Kind;
+use peers::peer_table;
+use rib::rib_at;
+use rib::rib_generic;
+use shown::Header;
+use shown::Part;
+use shown::Shown;
+use shown::Table;
+use table_dump::table_dump;
+
+// The longest BGP message.
+const MOST: u64 = 4096;
+
+fn header_of(m: &[u8], microseconds: u64) -> Header
+    requires { ⌜ 12 ≤ length (now m) ⌝ }
+    ensures { λ r. ⌜ r ≡ header (now (m .entry)) microseconds ⌝ }
+{
+    Header {
+        timestamp: number(m, 0, 4),
+        ty: number(m, 4, 2),
+        subtype: number(m, 6, 2),
+        length: number(m, 8, 4),
+        microseconds,
+    }
+}
+
+// Microseconds of `micro` octets, and where the message goes on.
+fn micro_at(m: &[u8], micro: usize) -> Num
+    requires { ⌜ micro ≤ 8 ⌝ }
+    ensures { λ r. ⌜ r ≡ microAt (now (m .entry)) micro ⌝ }
+{
+    if micro == 0 {
+        return Num::Value(0, 12);
+    }
+    field(m, 12, micro)
+}
+
+fn unread(m: &[u8], micro: usize, t: Table, most: u64) -> Shown
+    requires { ⌜ 12 ≤ length (now m) ⌝ }
+    requires { ⌜ micro ≤ 8 ⌝ }
+    ensures { λ r. ⌜ r ≡ shownAs most t (now (m .entry)) (chosen.Unread micro) ⌝ }
+{
+    let Num::Value(u, at) = micro_at(m, micro) else {
+        return Shown::Refused(5, 12);
+    };
+    Shown::Unread(
+        header_of(m, u),
+        Part {
+            at,
+            size: left(m, at),
+        },
+    )
+}
+
+fn change(m: &[u8], micro: usize, width: usize, t: Table, most: u64) -> Shown
+    requires { ⌜ 12 ≤ length (now m) ⌝ }
+    requires { ⌜ (micro ≤ 8) × (width ≤ 8) ⌝ }
+    ensures { λ r. ⌜ r ≡ shownAs most t (now (m .entry)) (chosen.Change micro width) ⌝ }
+{
+    let Num::Value(u, at) = micro_at(m, micro) else {
+        return Shown::Refused(5, 12);
+    };
+    state_change(m, at, width, header_of(m, u))
+}
+
+fn message(m: &[u8], micro: usize, width: usize, t: Table, most: u64) -> Shown
+    requires { ⌜ 12 ≤ length (now m) ⌝ }
+    requires { ⌜ (micro ≤ 8) × (width ≤ 8) ⌝ }
+    ensures { λ r. ⌜ r ≡ shownAs most t (now (m .entry)) (chosen.Message micro width) ⌝ }
+{
+    let Num::Value(u, at) = micro_at(m, micro) else {
+        return Shown::Refused(5, 12);
+    };
+    bgp_message(m, at, width, most, header_of(m, u))
+}
+
+fn rib_told(m: &[u8], bits: u64, t: Table, most: u64) -> Shown
+    requires { ⌜ 12 ≤ length (now m) ⌝ }
+    requires { ⌜ bits ≤ 128 ⌝ }
+    ensures { λ r. ⌜ r ≡ shownAs most t (now (m .entry)) (chosen.Rib bits) ⌝ }
+{
+    let Table::Holds(peers) = t else {
+        return Shown::Refused(12, 6);
+    };
+    rib_at(m, 12, bits, peers, header_of(m, 0))
+}
+
+fn generic_told(m: &[u8], t: Table, most: u64) -> Shown
+    requires { ⌜ 12 ≤ length (now m) ⌝ }
+    ensures { λ r. ⌜ r ≡ shownAs most t (now (m .entry)) chosen.RibGeneric ⌝ }
+{
+    let Table::Holds(peers) = t else {
+        return Shown::Refused(12, 6);
+    };
+    rib_generic(m, 12, peers, header_of(m, 0))
+}
+
+// A record of a kind; m runs from its header to its last octet.
+fn show(m: &[u8], k: Kind, t: Table, most: u64) -> Shown
+    requires { ⌜ 12 ≤ length (now m) ⌝ }
+    requires { ⌜ Sane k ⌝ }
+    ensures { λ r. ⌜ r ≡ shownAs most t (now (m .entry)) k ⌝ }
+{
+    match k {
+        Kind::Refused(n, place) => Shown::Refused(n, place),
+        Kind::Unread(micro) => unread(m, micro, t, most),
+        Kind::TableDump(size) => table_dump(m, 12, size, header_of(m, 0)),
+        Kind::PeerTable => peer_table(m, 12, header_of(m, 0)),
+        Kind::Rib(bits) => rib_told(m, bits, t, most),
+        Kind::RibGeneric => generic_told(m, t, most),
+        Kind::Change(micro, width) => change(m, micro, width, t, most),
+        Kind::Message(micro, width) => message(m, micro, width, t, most),
+    }
+}
+
+fn whole_record(m: &[u8], t: Table, most: u64) -> Shown
+    requires { ⌜ 12 ≤ length (now m) ⌝ }
+    ensures { λ r. ⌜ r ≡ wholeRecord most t (now (m .entry)) ⌝ }
+{
+    let k = kind_of(number(m, 4, 2), number(m, 6, 2));
+    show(m, k, t, most)
+}
+
+// The record that starts s, where the table t is told. Octets behind it are not looked at.
+pub fn read_record(s: &[u8], t: Table) -> Shown
+    ensures { λ r. ⌜ r ≡ readOne 4096 t (now (s .entry)) ⌝ }
+{
+    if s.len() == 0 {
+        return Shown::Nothing;
+    }
+    if s.len() < 12 {
+        return Shown::Refused(1, 0);
+    }
+    let length = number(s, 8, 4) as usize;
+    if s.len() - 12 < length {
+        return Shown::Refused(2, 0);
+    }
+    let end = 12 + length;
+    whole_record(&s[0..end], t, MOST)
+}
