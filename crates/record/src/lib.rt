@@ -4,7 +4,7 @@ ghost use Prim.Native.Nat.{_≤_};
 ghost use lib.ListN.{length};
 ghost use Rattle.page.specs.Sane.{Sane};
 ghost use Rattle.reading.specs.One.{header, microAt, shownAs, wholeRecord, readOne};
-ghost use Rattle.reading.specs.Answer as answer;
+ghost use Rattle.record.specs.Small.{Small};
 ghost use Rattle.page.specs.declared.Kind.the-variants as chosen;
 use bgp::bgp_message;
 use bgp::state_change;
@@ -26,23 +26,23 @@ use table_dump::table_dump;
 // The longest BGP message.
 const MOST: u64 = 4096;
 
-fn header_of(m: &[u8], microseconds: u64) -> Header
+fn header_of(m: &[u8], microseconds: u32) -> Header
     requires { ⌜ 12 ≤ length (now m) ⌝ }
     ensures { λ r. ⌜ r ≡ header (now (m .entry)) microseconds ⌝ }
 {
     Header {
-        timestamp: number(m, 0, 4),
-        ty: number(m, 4, 2),
-        subtype: number(m, 6, 2),
-        length: number(m, 8, 4),
+        timestamp: number(m, 0, 4) as u32,
+        ty: number(m, 4, 2) as u16,
+        subtype: number(m, 6, 2) as u16,
+        length: number(m, 8, 4) as u32,
         microseconds,
     }
 }
 
 // Microseconds of `micro` octets, and where the message goes on.
 fn micro_at(m: &[u8], micro: usize) -> Num
-    requires { ⌜ micro ≤ 8 ⌝ }
-    ensures { λ r. ⌜ r ≡ microAt (now (m .entry)) micro ⌝ }
+    requires { ⌜ micro ≤ 4 ⌝ }
+    ensures { λ r. ⌜ (r ≡ microAt (now (m .entry)) micro) × Small r ⌝ }
 {
     if micro == 0 {
         return Num::Value(0, 12);
@@ -52,14 +52,14 @@ fn micro_at(m: &[u8], micro: usize) -> Num
 
 fn unread(m: &[u8], micro: usize, t: Table, most: u64) -> Shown
     requires { ⌜ 12 ≤ length (now m) ⌝ }
-    requires { ⌜ micro ≤ 8 ⌝ }
+    requires { ⌜ micro ≤ 4 ⌝ }
     ensures { λ r. ⌜ r ≡ shownAs most t (now (m .entry)) (chosen.Unread micro) ⌝ }
 {
     let Num::Value(u, at) = micro_at(m, micro) else {
         return Shown::Refused(5, 12);
     };
     Shown::Unread(
-        header_of(m, u),
+        header_of(m, u as u32),
         Part {
             at,
             size: left(m, at),
@@ -69,24 +69,24 @@ fn unread(m: &[u8], micro: usize, t: Table, most: u64) -> Shown
 
 fn change(m: &[u8], micro: usize, width: usize, t: Table, most: u64) -> Shown
     requires { ⌜ 12 ≤ length (now m) ⌝ }
-    requires { ⌜ (micro ≤ 8) × (width ≤ 8) ⌝ }
+    requires { ⌜ (micro ≤ 4) × (width ≤ 8) ⌝ }
     ensures { λ r. ⌜ r ≡ shownAs most t (now (m .entry)) (chosen.Change micro width) ⌝ }
 {
     let Num::Value(u, at) = micro_at(m, micro) else {
         return Shown::Refused(5, 12);
     };
-    state_change(m, at, width, header_of(m, u))
+    state_change(m, at, width, header_of(m, u as u32))
 }
 
 fn message(m: &[u8], micro: usize, width: usize, t: Table, most: u64) -> Shown
     requires { ⌜ 12 ≤ length (now m) ⌝ }
-    requires { ⌜ (micro ≤ 8) × (width ≤ 8) ⌝ }
+    requires { ⌜ (micro ≤ 4) × (width ≤ 8) ⌝ }
     ensures { λ r. ⌜ r ≡ shownAs most t (now (m .entry)) (chosen.Message micro width) ⌝ }
 {
     let Num::Value(u, at) = micro_at(m, micro) else {
         return Shown::Refused(5, 12);
     };
-    bgp_message(m, at, width, most, header_of(m, u))
+    bgp_message(m, at, width, most, header_of(m, u as u32))
 }
 
 fn rib_told(m: &[u8], bits: u64, t: Table, most: u64) -> Shown

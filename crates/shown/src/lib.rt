@@ -5,12 +5,12 @@ pub struct Part {
 }
 
 pub struct Header {
-    pub timestamp: u64,
-    pub ty: u64,
-    pub subtype: u64,
-    pub length: u64,
+    pub timestamp: u32,
+    pub ty: u16,
+    pub subtype: u16,
+    pub length: u32,
     // 0 where the type has none
-    pub microseconds: u64,
+    pub microseconds: u32,
 }
 
 // Types 16 and 17: the peer's AS and the local one, and the two addresses, the peer's first.

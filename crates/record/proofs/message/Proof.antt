@@ -16,7 +16,10 @@ enum-told c = search needs
 
 returns : tie.Need-returns
 unfolding shownAs
-returns c = behind-short _ _ _ (c .before .before .micro-at .ensures) (c .enum-told .given .1)
+returns c = behind-short _ _ _ (c .before .before .micro-at .ensures .0) (c .enum-told .given .1)
+
+cast-header-of : tie.Need-cast-header-of
+cast-header-of c = let s = rw (c .before .u .given .1) at (c .before .before .before .micro-at .ensures .1) in search needs
 
 header-of-requires : tie.Need-header-of-requires
 header-of-requires c κs = search needs
@@ -26,7 +29,7 @@ bgp-message-requires c κs = search needs
 
 returns-2 : tie.Need-returns-2
 unfolding shownAs
-returns-2 c = behind-value _ _ _ (c .before .before .before .before .before .micro-at .ensures) _ _ _ (c .before .before .before .u .given .1) (rw (c .before .header-of .ensures) at (c .bgp-message .ensures))
+returns-2 c = behind-value _ _ _ (c .before .before .before .before .before .micro-at .ensures .0) _ _ _ (c .before .before .before .u .given .1) (rw (c .before .header-of .ensures) at (c .bgp-message .ensures))
 
 pub message-spec : {M : Type 1} → statement M
 message-spec =
@@ -36,6 +39,7 @@ message-spec =
     enum-known-u
     enum-told
     returns
+    cast-header-of
     header-of-requires
     bgp-message-requires
     returns-2)
