@@ -1,0 +1,26 @@
+-- `parts::address` meets its contract. Assumes nothing.
+use borrow.Author.Needs.{needs}
+use Rattle.parts.proofs.address.Statement.{statement}
+use Rattle.parts.proofs.address.Tie as tie
+
+enum-known-p : tie.Need-enum-known-p
+enum-known-p c = search needs
+
+within-requires : tie.Need-within-requires
+within-requires c κs = search needs
+
+enum-told : tie.Need-enum-told
+enum-told c = search needs
+
+part-requires : tie.Need-part-requires
+part-requires c κs = search needs
+
+returns : tie.Need-returns
+returns c = rw (c .before .before .p .given .1) (c .within .ensures)
+
+returns-2 : tie.Need-returns-2
+returns-2 c = search needs
+
+pub address-spec : {M : Type 1} → statement M
+address-spec =
+    tie.close (tie.spec enum-known-p within-requires enum-told part-requires returns returns-2)
