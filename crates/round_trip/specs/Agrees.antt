@@ -1,0 +1,37 @@
+-- When what reading one record shows is what the record grammar's reader finds. Assumes nothing.
+use mathlib.Core.Path.{_≡_}
+use mathlib.Core.List.{List}
+use Prim.Native.Nat.{ℕ}
+use Rattle.form.specs.Fmt.{Out, bad, good}
+use Rattle.form.specs.Record.{Rec, size, timeOf}
+use Rattle.form.specs.Gives.{Gives}
+use Rattle.page.specs.Layout.{layout}
+use Rattle.shown.specs.declared.Header.{Header}
+use Rattle.shown.specs.declared.Shown.{Shown}
+use Rattle.shown.specs.declared.Shown.the-variants.{Nothing, Refused, Unread, TableDump, PeerTable, Rib, RibGeneric, Change, Message}
+use Rattle.reading.specs.Answer.{fault, place, time}
+use Rattle.round_trip.specs.Again.{again}
+
+-- zeros where no record is shown
+abbrev pub headerOf : Shown → Header
+headerOf Nothing = record { timestamp = 0; ty = 0; subtype = 0; length = 0; microseconds = 0 }
+headerOf (Refused n p) = record { timestamp = 0; ty = 0; subtype = 0; length = 0; microseconds = 0 }
+headerOf (Unread h c) = h
+headerOf (TableDump h r) = h
+headerOf (PeerTable h p) = h
+headerOf (Rib h r) = h
+headerOf (RibGeneric h f i r) = h
+headerOf (Change h e o n) = h
+headerOf (Message h e b k) = h
+
+-- what is shown of a record: no fault, where it ends, its time, and its very fields
+pub record Same (most : ℕ) (s : List ℕ) (r : Rec) (x : Shown) : Type 0 where
+  pub accepted : fault x ≡ 0
+  pub ends : place x ≡ size r
+  pub timed : time (headerOf x) ≡ timeOf (layout most) r
+  pub gives : Gives (again s x) r
+
+-- a fault is shown with its number and place
+abbrev pub Agrees : (most : ℕ) → List ℕ → Out Rec → Shown → Type 0
+Agrees most s (bad n p) x = x ≡ Refused n p
+Agrees most s (good r q) x = Same most s r x
