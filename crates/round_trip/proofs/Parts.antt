@@ -34,7 +34,7 @@ module _ (s : List ℕ) where
   first-here : (c : List ℕ) (r : List ℕ) (i : ℕ) → c ++ r ≡ drop i s → take (length c) (drop i s) ≡ c
   first-here c r i e = rw (← e) (take-at c r (length c) refl)
 
-  rest-here : (c : List ℕ) (r : List ℕ) (i : ℕ) → c ++ r ≡ drop i s → r ≡ drop (i + length c) s
+  pub rest-here : (c : List ℕ) (r : List ℕ) (i : ℕ) → c ++ r ≡ drop i s → r ≡ drop (i + length c) s
   rest-here c r i e = sym (drop-at c r (length c) refl) ∙ ap (drop (length c)) e ∙ drop-drop (length c) i s
 
   pub by-parts : (f : Fmt) (i : ℕ) (P : List (List ℕ) → List Seen → Type 0) → Parts f i P → (cs : List (List ℕ)) (r : List ℕ) → join cs ++ r ≡ drop i s → Fits f cs → P cs (seen f i cs)
