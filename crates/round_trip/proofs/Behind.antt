@@ -46,16 +46,20 @@ abbrev rest : List Seen → List Seen
 rest [] = []
 rest (x ∷ fs) = fs
 
--- microseconds first, then the message: the layout's first field
-behind-whole : (m : List ℕ) (f : Fmt) (g : ℕ → List Seen → Shown)
-    → behind (microAt m 4) (λ n at. whole (g n) Refused f m at) ≡ whole (λ fs. g (numberOf microseconds fs) (rest fs)) Refused (stamped 4 f) m 12
-unfolding behind microAt fieldAt numAt stamped num pass choose
-behind-whole m f g = go (ltb (length m) 16)
+-- where there are four octets of microseconds
+pub behind-micro : (m : List ℕ) (k : ℕ → ℕ → Shown) → behind (microAt m 4) k ≡ cond (ltb (length m) 16) (Refused 5 12) (k (be (take 4 (drop 12 m))) 16)
+unfolding behind microAt fieldAt numAt choose
+behind-micro m k = go (ltb (length m) 16)
   where
-    go : (b : Bool) → behind (choose b one.Short (one.Value (be (take 4 (drop 12 m))) 16)) (λ n at. whole (g n) Refused f m at)
-        ≡ cond b (Refused 5 12) (whole (g (be (take 4 (drop 12 m)))) Refused f m 16)
+    go : (b : Bool) → behind (choose b one.Short (one.Value (be (take 4 (drop 12 m))) 16)) k ≡ cond b (Refused 5 12) (k (be (take 4 (drop 12 m))) 16)
     go true = refl
     go false = refl
+
+-- they are the layout's first field
+behind-whole : (m : List ℕ) (f : Fmt) (g : ℕ → List Seen → Shown)
+    → behind (microAt m 4) (λ n at. whole (g n) Refused f m at) ≡ whole (λ fs. g (numberOf microseconds fs) (rest fs)) Refused (stamped 4 f) m 12
+unfolding stamped num pass
+behind-whole m f g = behind-micro m (λ n at. whole (g n) Refused f m at)
 
 module _ (most : ℕ) (s m q : List ℕ) (t y u len : ℕ) (l : Stands s m q len) (micro : ℕ) (k : Kind) (kd : kind y u ≡ k) (f : Fmt) (laid : layoutOf most k ≡ fields (stamped micro f))
     (show : Header → List Seen → Shown) (values : List Seen → List Value)

@@ -1,9 +1,10 @@
 -- What is the same for all layouts: a fault, the end of a record and its time. Assumes nothing.
 use mathlib.Core.Path.{_≡_, refl, sym, ap, _∙_}
-use mathlib.Core.List.{List, [], _∷_, _++_}
+use mathlib.Core.List.{List, [], _∷_, _++_, append-assoc}
 use Prim.Native.Nat.{ℕ, _+_, _-_, _<_, _≤_}
 use native.Mathlib.Omega.{arith}
-use lib.ListN.{length, drop, length-drop}
+use lib.ListN.{length, take, drop, length-append, length-drop}
+use lib.Seq.{take-at}
 use Rattle.form.specs.Octets.{Octets, toBe}
 use Rattle.form.specs.Fmt.{Out, bad, good, bind, Fmt, Fits, join}
 use Rattle.form.specs.Body.{joins, AllFits, Body, plain, loose, listed, just, free, many, readBody, spell, BodyFits}
@@ -25,6 +26,7 @@ use Rattle.shown.specs.declared.Shown.the-variants.{Refused}
 use Rattle.reading.specs.Answer.{fault, place}
 use Rattle.round_trip.specs.Again.{again}
 use Rattle.round_trip.specs.Agrees.{headerOf, Same, Agrees}
+use Rattle.round_trip.proofs.Parts.{rest-here}
 
 abbrev pub head : (timestamp type sub length microseconds : ℕ) → Header
 head t y u l n = record { timestamp = t; ty = y; subtype = u; length = l; microseconds = n }
@@ -46,6 +48,14 @@ module _ (most : ℕ) (s m q : List ℕ) (t y u len : ℕ) (l : Stands s m q len
   same k kd b e n x f p h d g =
       let z : length (spell b) ≡ length m - 12 = ap length e ∙ length-drop 12 m in
       record { accepted = f; ends = p ∙ omega arith; timed = rw (h, kd, d); gives = g }
+
+  -- what stands behind the front of a message
+  pub rest-is : (front c : List ℕ) (a : ℕ) → front ++ c ≡ drop 12 m → a ≡ 12 + length front → take (length m - a) (drop a s) ≡ c
+  rest-is front c a e d =
+      let z : length front + length c ≡ length m - 12 = sym (length-append front c) ∙ ap length e ∙ length-drop 12 m in
+      let j : front ++ (c ++ q) ≡ drop 12 s = sym (append-assoc front c q) ∙ rw e (l .here) in
+      let x : length c ≡ length m - (12 + length front) = omega arith in
+      rw (d, ← (rest-here s front (c ++ q) 12 j)) (take-at c q (length m - (12 + length front)) x)
 
   -- of the reading of the message
   abbrev pub Reads : Out Body → Shown → Type 0
