@@ -6,3 +6,4 @@ pub mod Bgp4mp
 pub mod Behind
 pub mod Unread
 pub mod Tables
+pub mod One
