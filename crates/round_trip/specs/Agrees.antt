@@ -5,12 +5,14 @@ use Prim.Native.Nat.{ℕ}
 use Rattle.form.specs.Fmt.{Out, bad, good}
 use Rattle.form.specs.Record.{Rec, size, timeOf}
 use Rattle.form.specs.Gives.{Gives}
-use Rattle.page.specs.Layout.{layout}
+use Rattle.page.specs.Layout.{layout, kind}
 use Rattle.shown.specs.declared.Header.{Header}
 use Rattle.shown.specs.declared.Shown.{Shown}
 use Rattle.shown.specs.declared.Shown.the-variants.{Nothing, Refused, Unread, TableDump, PeerTable, Rib, RibGeneric, Change, Message}
 use Rattle.reading.specs.Answer.{fault, place, time}
-use Rattle.round_trip.specs.Again.{again}
+use Rattle.writing.specs.Times.{microOf}
+use Rattle.writing.specs.Only.{tableDumps, peerTables, ribs, genericRibs, changes, messages, unreads, writer}
+use Rattle.round_trip.specs.Again.{clock, again}
 
 -- zeros where no record is shown
 abbrev pub headerOf : Shown → Header
@@ -24,11 +26,24 @@ headerOf (RibGeneric h f i r) = h
 headerOf (Change h e o n) = h
 headerOf (Message h e b k) = h
 
--- what is shown of a record: no fault, where it ends, its time, and its very fields
+-- whose writer takes it back; 0 is none
+abbrev pub writerOf : Shown → ℕ
+writerOf Nothing = 0
+writerOf (Refused n p) = 0
+writerOf (Unread h c) = unreads (microOf (clock h))
+writerOf (TableDump h r) = tableDumps
+writerOf (PeerTable h p) = peerTables
+writerOf (Rib h r) = ribs
+writerOf (RibGeneric h f i r) = genericRibs
+writerOf (Change h e o n) = changes
+writerOf (Message h e b k) = messages
+
+-- what is shown of a record: no fault, where it ends, its time, its kind, and its very fields
 pub record Same (most : ℕ) (s : List ℕ) (r : Rec) (x : Shown) : Type 0 where
   pub accepted : fault x ≡ 0
   pub ends : place x ≡ size r
   pub timed : time (headerOf x) ≡ timeOf (layout most) r
+  pub whose : writerOf x ≡ writer (kind (r .type) (r .sub))
   pub gives : Gives (again s x) r
 
 -- a fault is shown with its number and place
