@@ -7,3 +7,5 @@ pub mod Behind
 pub mod Unread
 pub mod Tables
 pub mod One
+pub mod Only
+pub mod Restores
