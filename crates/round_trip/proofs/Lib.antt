@@ -9,3 +9,4 @@ pub mod Tables
 pub mod One
 pub mod Only
 pub mod Restores
+pub mod Shows
