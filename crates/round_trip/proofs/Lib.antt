@@ -10,3 +10,4 @@ pub mod One
 pub mod Only
 pub mod Restores
 pub mod Shows
+pub mod Given

@@ -1,12 +1,14 @@
 -- The writer of a record's kind refuses it just where the whole page does. Assumes nothing.
-use mathlib.Core.Path.{_≡_, refl}
-use Prim.Native.Nat.{ℕ}
+use mathlib.Core.Path.{_≡_, refl, sym}
+use mathlib.Core.Bool.{Bool, true, false}
+use Prim.Native.Nat.{ℕ, suc}
 use native.Mathlib.Omega.{arith}
 use lib.Dec.{eqb}
-use borrow.Author.Tests.{eq-eqb}
+use borrow.Author.Tests.{eq-eqb, eqb-true}
 use Rattle.form.specs.Words.{choose}
 use Rattle.form.specs.Shape.{Layout, St, noTable, plan}
-use Rattle.form.specs.Put.{Given, fieldsRefusal, recordRefusal}
+use Rattle.form.specs.Put.{Given, large, refusal, bodyRefusal, typeRefusal, fieldsRefusal, recordRefusal}
+use Rattle.form.proofs.Put.{orElse-zero}
 use Rattle.page.specs.Layout.{kind, layoutOf, layout}
 use Rattle.page.specs.declared.Kind.{Kind}
 use Rattle.page.specs.declared.Kind.the-variants.{Refused, Unread, TableDump, PeerTable, Rib, RibGeneric, Change, Message}
@@ -38,3 +40,24 @@ pub refusal-free : (most : ℕ) (st : St) (g : Given) → (writer (kind (g .type
     → recordRefusal (layout most) st g ≡ recordRefusal (layout most) noTable g
 unfolding recordRefusal fieldsRefusal layout
 refusal-free most st g h i = rw (plan-free most st (kind (g .type) (g .sub)) h i)
+
+-- what a writer does not refuse is of its own kind
+pub own-writer : (n a p most : ℕ) (st : St) (g : Given) → recordRefusal (only n (Refused (suc a) p) most) st g ≡ 0 → n ≡ writer (kind (g .type) (g .sub))
+unfolding recordRefusal fieldsRefusal plan layoutOf bodyRefusal refusal choose
+own-writer n a p most st g e = go (eqb (writer (kind (g .type) (g .sub))) n) refl last
+  where
+    l : Layout
+    l = only n (Refused (suc a) p) most (g .type) (g .sub)
+
+    last : bodyRefusal (plan st l) (g .values) (g .tail) ≡ 0
+    last =
+        let z0 = orElse-zero (fieldsRefusal (only n (Refused (suc a) p) most) st g) _ e in
+        let z1 = orElse-zero (large 4 (g .stamp)) _ (z0 .0) in
+        let z2 = orElse-zero (large 2 (g .type)) _ (z1 .1) in
+        let z3 = orElse-zero (typeRefusal l) _ (z2 .1) in
+        orElse-zero (large 2 (g .sub)) _ (z3 .1) .1
+
+    go : (b : Bool) → eqb (writer (kind (g .type) (g .sub))) n ≡ b → bodyRefusal (plan st (layoutOf most (choose b (kind (g .type) (g .sub)) (Refused (suc a) p)))) (g .values) (g .tail) ≡ 0
+        → n ≡ writer (kind (g .type) (g .sub))
+    go true t h = sym (eqb-true _ n t)
+    go false t h = absurd (omega arith)
