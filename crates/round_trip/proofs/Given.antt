@@ -57,22 +57,22 @@ same-given g h r p q f =
 
 -- ---- the form of what each writer is given
 
-formed-change : (i : Time) (u p l f k : ℕ) (a b : List ℕ) (o n : ℕ) → forms (changeGiven i u p l f k a b o n .values) ≡ Formed changes (changeGiven i u p l f k a b o n)
+pub formed-change : (i : Time) (u p l f k : ℕ) (a b : List ℕ) (o n : ℕ) → forms (changeGiven i u p l f k a b o n .values) ≡ Formed changes (changeGiven i u p l f k a b o n)
 unfolding formsFor choose finer
 formed-change (Seconds t) u p l f k a b o n = refl
 formed-change (Micro t v) u p l f k a b o n = refl
 
-formed-message : (i : Time) (u p l f k : ℕ) (a b c : List ℕ) → forms (messageGiven i u p l f k a b c .values) ≡ Formed messages (messageGiven i u p l f k a b c)
+pub formed-message : (i : Time) (u p l f k : ℕ) (a b c : List ℕ) → forms (messageGiven i u p l f k a b c .values) ≡ Formed messages (messageGiven i u p l f k a b c)
 unfolding formsFor choose finer
 formed-message (Seconds t) u p l f k a b c = refl
 formed-message (Micro t v) u p l f k a b c = refl
 
-formed-unread : (i : Time) (y u : ℕ) (c : List ℕ) → forms (unreadGiven i y u c .values) ≡ Formed (unreads (microOf i)) (unreadGiven i y u c)
+pub formed-unread : (i : Time) (y u : ℕ) (c : List ℕ) → forms (unreadGiven i y u c .values) ≡ Formed (unreads (microOf i)) (unreadGiven i y u c)
 unfolding formsFor choose
 formed-unread (Seconds t) y u c = refl
 formed-unread (Micro t v) y u c = refl
 
-formed-again : (s : List ℕ) (x : Shown) → forms (again s x .values) ≡ Formed (writerOf x) (again s x)
+pub formed-again : (s : List ℕ) (x : Shown) → forms (again s x .values) ≡ Formed (writerOf x) (again s x)
 unfolding formsFor choose
 formed-again s Nothing = refl
 formed-again s (Refused n p) = refl

@@ -11,3 +11,6 @@ pub mod Only
 pub mod Restores
 pub mod Shows
 pub mod Given
+pub mod Tails
+pub mod Written
+pub mod Fair

@@ -41,22 +41,20 @@ pub refusal-free : (most : ℕ) (st : St) (g : Given) → (writer (kind (g .type
 unfolding recordRefusal fieldsRefusal layout
 refusal-free most st g h i = rw (plan-free most st (kind (g .type) (g .sub)) h i)
 
+pub body-refusal : (l : ℕ → ℕ → Layout) (st : St) (g : Given) → recordRefusal l st g ≡ 0 → bodyRefusal (plan st (l (g .type) (g .sub))) (g .values) (g .tail) ≡ 0
+unfolding recordRefusal fieldsRefusal
+body-refusal l st g e =
+    let z0 = orElse-zero (fieldsRefusal l st g) _ e in
+    let z1 = orElse-zero (large 4 (g .stamp)) _ (z0 .0) in
+    let z2 = orElse-zero (large 2 (g .type)) _ (z1 .1) in
+    let z3 = orElse-zero (typeRefusal (l (g .type) (g .sub))) _ (z2 .1) in
+    orElse-zero (large 2 (g .sub)) _ (z3 .1) .1
+
 -- what a writer does not refuse is of its own kind
 pub own-writer : (n a p most : ℕ) (st : St) (g : Given) → recordRefusal (only n (Refused (suc a) p) most) st g ≡ 0 → n ≡ writer (kind (g .type) (g .sub))
-unfolding recordRefusal fieldsRefusal plan layoutOf bodyRefusal refusal choose
-own-writer n a p most st g e = go (eqb (writer (kind (g .type) (g .sub))) n) refl last
+unfolding plan layoutOf bodyRefusal refusal choose
+own-writer n a p most st g e = go (eqb (writer (kind (g .type) (g .sub))) n) refl (body-refusal (only n (Refused (suc a) p) most) st g e)
   where
-    l : Layout
-    l = only n (Refused (suc a) p) most (g .type) (g .sub)
-
-    last : bodyRefusal (plan st l) (g .values) (g .tail) ≡ 0
-    last =
-        let z0 = orElse-zero (fieldsRefusal (only n (Refused (suc a) p) most) st g) _ e in
-        let z1 = orElse-zero (large 4 (g .stamp)) _ (z0 .0) in
-        let z2 = orElse-zero (large 2 (g .type)) _ (z1 .1) in
-        let z3 = orElse-zero (typeRefusal l) _ (z2 .1) in
-        orElse-zero (large 2 (g .sub)) _ (z3 .1) .1
-
     go : (b : Bool) → eqb (writer (kind (g .type) (g .sub))) n ≡ b → bodyRefusal (plan st (layoutOf most (choose b (kind (g .type) (g .sub)) (Refused (suc a) p)))) (g .values) (g .tail) ≡ 0
         → n ≡ writer (kind (g .type) (g .sub))
     go true t h = sym (eqb-true _ n t)

@@ -1,11 +1,14 @@
 -- The form of a writer's values: numbers of so many octets, or octets. Assumes nothing.
 use mathlib.Core.Bool.{Bool, true, false}
+use mathlib.Core.Path.{_≡_}
+use mathlib.Core.Logic.{_⊎_}
 use mathlib.Core.Option.{Option, none, some}
 use mathlib.Core.List.{List, [], _∷_, _++_}
-use Prim.Native.Nat.{ℕ}
+use Prim.Native.Nat.{ℕ, _<_}
 use lib.Dec.{eqb, ltb}
 use Rattle.form.specs.Words.{_$_, choose}
-use Rattle.form.specs.Put.{Value, digits, bytes, Given}
+use Rattle.form.specs.Octets.{Octets}
+use Rattle.form.specs.Put.{Value, digits, bytes, Tail, nothing, carried, items, Given}
 use Rattle.page.specs.Layout.{kind}
 use Rattle.writing.specs.Only.{tableDumps, peerTables, ribs, genericRibs, changes, messages, unreads, asOctets}
 use Rattle.round_trip.specs.Again.{finer}
@@ -39,3 +42,9 @@ formsFor n fine w =
 -- what a writer is given has the form of its own records' values
 abbrev pub Formed : (writer : ℕ) → Given → List (Option ℕ)
 Formed n g = formsFor n (finer (g .type)) (asOctets (kind (g .type) (g .sub)))
+
+-- and so has what follows them: nothing, contents or items
+abbrev pub TailFor : (writer : ℕ) → Tail → Type 0
+TailFor n nothing = (n ≡ tableDumps) ⊎ ((n ≡ changes) ⊎ (n ≡ messages))
+TailFor n (carried r) = Octets r × (messages < n)
+TailFor n (items c raw) = Octets raw × (tableDumps < n) × (n < changes)
