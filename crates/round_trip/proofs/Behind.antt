@@ -37,7 +37,7 @@ use Rattle.writing.specs.Givens.{bgpGiven}
 use Rattle.writing.specs.declared.Time.{Time}
 use Rattle.writing.specs.declared.Time.the-variants.{Seconds, Micro}
 use Rattle.round_trip.specs.Again.{finer, clock, again}
-use Rattle.round_trip.specs.Agrees.{headerOf, writerOf, Same}
+use Rattle.round_trip.specs.Agrees.{headerOf, writerOf, Typed, Same}
 use Rattle.round_trip.proofs.Choice.{Bgp}
 use Rattle.round_trip.proofs.Parts.{by-parts, rest-here}
 use Rattle.round_trip.proofs.Same.{head, rec, Stands, Reads, same, fields-agree}
@@ -64,7 +64,7 @@ behind-whole m f g = behind-micro m (λ n at. whole (g n) Refused f m at)
 
 module _ (most : ℕ) (s m q : List ℕ) (t y u len : ℕ) (l : Stands s m q len) (micro : ℕ) (k : Kind) (kd : kind y u ≡ k) (f : Fmt) (laid : layoutOf most k ≡ fields (stamped micro f))
     (show : Header → List Seen → Shown) (values : List Seen → List Value)
-    (spelled : (i : ℕ) (cs : List (List ℕ)) (r : List ℕ) → join cs ++ r ≡ drop i s → Fits f cs → Spells (values (seen f i cs)) cs × (0 ≡ numberOf microseconds (seen f i cs)))
+    (spelled : (i : ℕ) (cs : List (List ℕ)) (r : List ℕ) → join cs ++ r ≡ drop i s → Fits f cs → Spells (values (seen f i cs)) cs × (0 ≡ numberOf microseconds (seen f i cs)) × ((h : Header) → Typed s (show h (seen f i cs))))
     (shown : (h : Header) (fs : List Seen) → (fault (show h fs) ≡ 0) × (place (show h fs) ≡ end h) × (headerOf (show h fs) ≡ h) × (writerOf (show h fs) ≡ writer k))
     (given : (n : ℕ) (i : Time) → clock (head t y u len n) ≡ i → bgp4mp i ≡ y → (fs : List Seen) → again s (show (head t y u len n) fs) ≡ bgpGiven i u (values fs)) where
   plainly : y ≡ 16 → micro ≡ 0 → (cs : List (List ℕ)) → Fits f cs → join cs ≡ drop 12 m → Same most s (rec t y u (plain cs)) (show (head t y u len 0) (seen f 12 cs))
@@ -73,7 +73,7 @@ module _ (most : ℕ) (s m q : List ℕ) (t y u len : ℕ) (l : Stands s m q len
       let z = spelled 12 cs q (rw j (l .here)) h in
       let x = shown (head t y u len 0) (seen f 12 cs) in
       let c : clock (head t y u len 0) ≡ Seconds t = rw e in
-      same most s m q t y u len l k kd (plain cs) j 0 _ (x .0) (x .1) (x .2) (rw (laid, d) (z .1 ∙ number-find 0 f 12 cs)) (x .3)
+      same most s m q t y u len l k kd (plain cs) j 0 _ (x .0) (x .1) (x .2) (rw (laid, d) (z .1 ∙ number-find 0 f 12 cs)) (x .3) (z .2 (head t y u len 0))
       (rw (given 0 (Seconds t) c (sym e) (seen f 12 cs)) (record { stamp = refl; type = sym e; sub = refl; fit = z .0 .0; front = z .0 .1; tail = refl }))
 
   finely : y ≡ 17 → micro ≡ 4 → (cs : List (List ℕ)) → Fits (stamped 4 f) cs → join cs ≡ drop 12 m
@@ -84,7 +84,7 @@ module _ (most : ℕ) (s m q : List ℕ) (t y u len : ℕ) (l : Stands s m q len
       let z = spelled (12 + length c) cs q (rest-here s c (join cs ++ q) 12 (sym (append-assoc c (join cs) q) ∙ rw j (l .here))) (h .2) in
       let x = shown (head t y u len (be c)) fs in
       let v : clock (head t y u len (be c)) ≡ Micro t (be c) = rw e in
-      same most s m q t y u len l k kd (plain (c ∷ cs)) j (be c) _ (x .0) (x .1) (x .2) (rw (laid, d)) (x .3)
+      same most s m q t y u len l k kd (plain (c ∷ cs)) j (be c) _ (x .0) (x .1) (x .2) (rw (laid, d)) (x .3) (z .2 (head t y u len (be c)))
       (rw (given (be c) (Micro t (be c)) v (sym e) fs)
       (record { stamp = refl; type = sym e; sub = refl; fit = (be-below 4 c (h .0) (h .1), z .0 .0); front = rw (toBe-at 4 c (h .0) (h .1), z .0 .1); tail = refl }))
 

@@ -38,7 +38,7 @@ use Rattle.reading.specs.One.{microAt, behind}
 use Rattle.writing.specs.Givens.{sessionValues, stateValues, bgpValues, bgpGiven}
 use Rattle.writing.specs.declared.Time.the-variants.{Seconds, Micro}
 use Rattle.round_trip.specs.Again.{again}
-use Rattle.round_trip.proofs.Choice.{Bgp}
+use Rattle.round_trip.specs.Agrees.{Typed}
 use Rattle.round_trip.proofs.Parts.{Lies, Parts, by-parts, parts-choose, spells, below}
 use Rattle.round_trip.proofs.Same.{head, rec, Stands, Reads, same, fields-agree}
 
@@ -69,13 +69,14 @@ module _ (s : List ℕ) (w : ℕ) where
   abbrev pub messageOf : List Seen → List Value
   messageOf fs = sessionOf fs (bgpValues (within s (record { at = placeOf marker fs; size = numberOf bgpLength fs })))
 
-  pub change-parts : (i : ℕ) → Parts s (session w stateChange) i (λ cs fs. Spells (changeOf fs) cs × (0 ≡ numberOf microseconds fs))
+  pub change-parts : (i : ℕ) → Parts s (session w stateChange) i (λ cs fs. Spells (changeOf fs) cs × (0 ≡ numberOf microseconds fs) × ((h : Header) → Typed s (show.change h fs)))
   unfolding Parts num skip checked addresses state stateChange
   change-parts i =
       parts-session s w stateChange i _
       (λ size p hp l hl n hn a ha b hb c hc o ho ok v hv good. (
         ((below hp, (below hl, (below hn, (below ha, (tt, (tt, (below ho, (below hv, tt)))))))), rw (spells hp, spells hl, spells hn, spells ha, hb .here, hc .here, spells ho, spells hv)),
         refl,
+        λ h. tt,
       ))
 
 -- two parts, one behind the other
@@ -101,6 +102,11 @@ four k n y r a b c =
     let z : drop 19 x ≡ r = sym (drop-drop 1 18 x) ∙ rw q (drop-at y r 1 c) in
     rw (append-assoc (k ++ n) y r, append-assoc k n (y ++ r), take-at k (n ++ (y ++ r)) 16 a, p, q, z, take-at n (y ++ r) 2 b, take-at y r 1 c)
 
+third : (k n y r : List ℕ) → length k ≡ 16 → length n ≡ 2 → length y ≡ 1 → take 1 (drop 18 (k ++ n ++ y ++ r)) ≡ y
+third k n y r a b c =
+    let e : drop 18 (k ++ n ++ y ++ r) ≡ y ++ r = rw (append-assoc (k ++ n) y r) (drop-at (k ++ n) (y ++ r) 18 (rw (length-append, a, b))) in
+    rw e (take-at y r 1 c)
+
 long : (n most : ℕ) → _≡_ {A = ℕ} (cond (words.within 19 n most) 0 10) 0 → 19 ≤ n
 unfolding words.within
 long n most e = go (leb 19 n) (leb n most) refl e
@@ -109,7 +115,7 @@ long n most e = go (leb 19 n) (leb n most) refl e
     go true u p z = leb-true 19 n p
     go false u p z = absurd (omega arith)
 
-pub message-parts : (s : List ℕ) (w most i : ℕ) → Parts s (session w (message most)) i (λ cs fs. Spells (messageOf s w fs) cs × (0 ≡ numberOf microseconds fs))
+pub message-parts : (s : List ℕ) (w most i : ℕ) → Parts s (session w (message most)) i (λ cs fs. Spells (messageOf s w fs) cs × (0 ≡ numberOf microseconds fs) × ((h : Header) → Typed s (show.message h fs)))
 unfolding Parts num skip checked addresses message messageRest must area
 message-parts s w most i =
     parts-session s w (message most) i _
@@ -119,4 +125,5 @@ message-parts s w most i =
         rw (spells hp, spells hl, spells hn, spells ha, hb .here, hc .here, message-here hk hx hy hr (long (be x) most ok), four k x y r (hk .size) (hx .size) (hy .size)),
       ),
       refl,
+      λ h. rw (message-here hk hx hy hr (long (be x) most ok)) (ap be (sym (third k x y r (hk .size) (hx .size) (hy .size)))),
     ))

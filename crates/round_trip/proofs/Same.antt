@@ -26,7 +26,7 @@ use Rattle.shown.specs.declared.Shown.the-variants.{Refused}
 use Rattle.reading.specs.Answer.{fault, place}
 use Rattle.writing.specs.Only.{writer}
 use Rattle.round_trip.specs.Again.{again}
-use Rattle.round_trip.specs.Agrees.{headerOf, writerOf, Same, Agrees}
+use Rattle.round_trip.specs.Agrees.{headerOf, writerOf, Typed, Same, Agrees}
 use Rattle.round_trip.proofs.Parts.{rest-here}
 
 abbrev pub head : (timestamp type sub length microseconds : ℕ) → Header
@@ -44,11 +44,12 @@ pub record Stands (s m q : List ℕ) (len : ℕ) : Type 0 where
 module _ (most : ℕ) (s m q : List ℕ) (t y u len : ℕ) (l : Stands s m q len) where
   -- a message whose octets are those of b
   pub same : (k : Kind) → kind y u ≡ k → (b : Body) → spell b ≡ drop 12 m → (n : ℕ) (x : Shown) → fault x ≡ 0 → place x ≡ 12 + len → headerOf x ≡ head t y u len n
-      → n ≡ micros (layoutOf most k) b → writerOf x ≡ writer k → Gives (again s x) (rec t y u b) → Same most s (rec t y u b) x
+      → n ≡ micros (layoutOf most k) b → writerOf x ≡ writer k → Typed s x → Gives (again s x) (rec t y u b) → Same most s (rec t y u b) x
   unfolding timeOf layout
-  same k kd b e n x f p h d w g =
+  same k kd b e n x f p h d w v g =
       let z : length (spell b) ≡ length m - 12 = ap length e ∙ length-drop 12 m in
-      record { accepted = f; ends = p ∙ omega arith; timed = rw (h, kd, d); whose = rw kd w; gives = g }
+      let c : length (spell b) ≡ len = omega arith in
+      record { accepted = f; ends = p ∙ omega arith; timed = rw (h, kd, d); headed = rw (kd, ← d, c) h; typed = v; whose = rw kd w; gives = g }
 
   -- what stands behind the front of a message
   pub rest-is : (front c : List ℕ) (a : ℕ) → front ++ c ≡ drop 12 m → a ≡ 12 + length front → take (length m - a) (drop a s) ≡ c

@@ -48,4 +48,4 @@ module _ (most : ℕ) (s m q : List ℕ) (t y u len : ℕ) (l : Stands s m q len
       fields-agree most s m q t y u len l (tableDump size) (show.tableDump (head t y u len 0))
       (λ cs f d.
       let z = by-parts s (tableDump size) 12 (Shows s t y u len) (parts s t y u len size (sym e)) cs q (rw d (l .here)) f in
-      same most s m q t y u len l (TableDump size) kd (plain cs) d 0 _ refl refl refl (z .1 ∙ number-find 0 (tableDump size) 12 cs) refl (z .0))
+      same most s m q t y u len l (TableDump size) kd (plain cs) d 0 _ refl refl refl (z .1 ∙ number-find 0 (tableDump size) 12 cs) refl tt (z .0))

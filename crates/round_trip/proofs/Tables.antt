@@ -34,7 +34,7 @@ use Rattle.reading.specs.One.{tabled}
 use Rattle.writing.specs.Only.{writer}
 use Rattle.round_trip.specs.Tells.{Tells}
 use Rattle.round_trip.specs.Again.{again}
-use Rattle.round_trip.specs.Agrees.{headerOf, writerOf}
+use Rattle.round_trip.specs.Agrees.{headerOf, writerOf, Typed}
 use Rattle.round_trip.proofs.Parts.{Parts, by-parts, parts-choose, spells, below}
 use Rattle.round_trip.proofs.Same.{head, rec, Stands, Reads, same, rest-is, many-agree}
 
@@ -67,7 +67,7 @@ module _ (most : ℕ) (s m q : List ℕ) (t y u len : ℕ) (l : Stands s m q len
         → Gives (again s (to (fs ++ seen (counted x g) (12 + length (join cs)) (toBe 2 (length its) ∷ flat its)))) (rec t y u (listed cs its))
 
     listed-agrees : (f : Fmt) (k : Kind) → kind y u ≡ k → ((cs : List (List ℕ)) (its : List (List (List ℕ))) → 0 ≡ micros (layoutOf most k) (listed cs its))
-        → ((fs : List Seen) → (fault (to fs) ≡ 0) × (place (to fs) ≡ 12 + len) × (headerOf (to fs) ≡ head t y u len 0) × (writerOf (to fs) ≡ writer k)) → ((its : List (List (List ℕ))) → Parts s f 12 (Shows its))
+        → ((fs : List Seen) → (fault (to fs) ≡ 0) × (place (to fs) ≡ 12 + len) × (headerOf (to fs) ≡ head t y u len 0) × (writerOf (to fs) ≡ writer k) × Typed s (to fs)) → ((its : List (List (List ℕ))) → Parts s f 12 (Shows its))
         → Reads most s m q t y u len l (readBody (many f g) 12 (drop 12 m)) (whole to Refused (f ⨾ counted x g) m 12)
     unfolding spell
     listed-agrees f k kd z shown parts =
@@ -75,7 +75,7 @@ module _ (most : ℕ) (s m q : List ℕ) (t y u len : ℕ) (l : Stands s m q len
         (λ cs its h n e.
         let w = shown (seen f 12 cs ++ seen (counted x g) (12 + length (join cs)) (toBe 2 (length its) ∷ flat its)) in
         rw (seen-then f (counted x g) 12 cs (toBe 2 (length its) ∷ flat its) h)
-        (same most s m q t y u len l k kd (listed cs its) e 0 _ (w .0) (w .1) (w .2) (z cs its) (w .3)
+        (same most s m q t y u len l k kd (listed cs its) e 0 _ (w .0) (w .1) (w .2) (z cs its) (w .3) (w .4)
         (by-parts s f 12 (Shows its) (parts its) cs (toBe 2 (length its) ++ joins its ++ q) (sym (append-assoc (join cs) (toBe 2 (length its) ++ joins its) q) ∙ rw e (l .here)) h n e)))
 
   table-parts : y ≡ 13 → u ≡ 1 → (its : List (List (List ℕ))) → Parts s (tableHead (end 0)) 12 (Shows peerCount peer (show.peerTable (head t y u len 0) m) its)
@@ -96,7 +96,7 @@ module _ (most : ℕ) (s m q : List ℕ) (t y u len : ℕ) (l : Stands s m q len
   unfolding plan layoutOf micros peerList
   table-agrees st e d kd =
       rw table-then
-      (listed-agrees peerCount peer (show.peerTable (head t y u len 0) m) (tableHead (end 0)) PeerTable kd (λ cs its. refl) (λ fs. (refl, refl, refl, refl)) (table-parts e d))
+      (listed-agrees peerCount peer (show.peerTable (head t y u len 0) m) (tableHead (end 0)) PeerTable kd (λ cs its. refl) (λ fs. (refl, refl, refl, refl, tt)) (table-parts e d))
 
   module _ (peers : ℕ) where
     rib-parts : (bits : ℕ) → y ≡ 13 → (its : List (List (List ℕ))) → Parts s (ribHead bits (end 0)) 12 (Shows entryCount (entry peers) (show.rib (head t y u len 0) m) its)
@@ -141,7 +141,7 @@ module _ (most : ℕ) (s m q : List ℕ) (t y u len : ℕ) (l : Stands s m q len
   rib-agrees Absent noTable h bits e kd = refl
   rib-agrees (Holds n) (peersOf ns) h bits e kd =
       rw (← h, rib-then bits n)
-      (listed-agrees entryCount (entry n) (show.rib (head t y u len 0) m) (ribHead bits (end 0)) (Rib bits) kd (λ cs its. refl) (λ fs. (refl, refl, refl, refl)) (rib-parts n bits e))
+      (listed-agrees entryCount (entry n) (show.rib (head t y u len 0) m) (ribHead bits (end 0)) (Rib bits) kd (λ cs its. refl) (λ fs. (refl, refl, refl, refl, tt)) (rib-parts n bits e))
 
   pub generic-agrees : (table : Table) (st : St) → Tells table st → y ≡ 13 → u ≡ 6 → kind y u ≡ RibGeneric
       → Reads most s m q t y u len l (readBody (plan st (layoutOf most RibGeneric)) 12 (drop 12 m))
@@ -150,4 +150,4 @@ module _ (most : ℕ) (s m q : List ℕ) (t y u len : ℕ) (l : Stands s m q len
   generic-agrees Absent noTable h e d kd = refl
   generic-agrees (Holds n) (peersOf ns) h e d kd =
       rw (← h, generic-then n)
-      (listed-agrees entryCount (entry n) (show.ribGeneric (head t y u len 0) m) (genericHead (end 0)) RibGeneric kd (λ cs its. refl) (λ fs. (refl, refl, refl, refl)) (generic-parts n e d))
+      (listed-agrees entryCount (entry n) (show.ribGeneric (head t y u len 0) m) (genericHead (end 0)) RibGeneric kd (λ cs its. refl) (λ fs. (refl, refl, refl, refl, tt)) (generic-parts n e d))

@@ -40,14 +40,14 @@ module _ (most : ℕ) (s m q : List ℕ) (t y u len : ℕ) (l : Stands s m q len
       → Same most s (rec t y u (loose cs c)) (shows (seen (end 0) 12 cs) (12 + length (join cs)))
   unfolding Fits find seen micros layoutOf stamped spell choose
   plainly e kd [] c h j =
-      same most s m q t y u len l (chosen.Unread 0) kd (loose [] c) j 0 _ refl refl refl refl (rw e)
+      same most s m q t y u len l (chosen.Unread 0) kd (loose [] c) j 0 _ refl refl refl refl (rw e) tt
       (rw e (record { stamp = refl; type = refl; sub = refl; fit = tt; front = refl; tail = ap carried (rest-is most s m q t y u len l [] c 12 j refl) }))
 
   finely : finer y ≡ true → kind y u ≡ chosen.Unread 4 → (cs : List (List ℕ)) (c : List ℕ) → Fits (stamped 4 (end 0)) cs → join cs ++ c ≡ drop 12 m
       → Same most s (rec t y u (loose cs c)) (shows (seen (stamped 4 (end 0)) 12 cs) (12 + length (join cs)))
   unfolding Fits find seen micros layoutOf stamped num spell choose
   finely e kd (b ∷ []) c h j =
-      same most s m q t y u len l (chosen.Unread 4) kd (loose (b ∷ []) c) j (be b) _ refl refl refl refl (rw e)
+      same most s m q t y u len l (chosen.Unread 4) kd (loose (b ∷ []) c) j (be b) _ refl refl refl refl (rw e) tt
       (rw e (record {
         stamp = refl;
         type = refl;

@@ -2,14 +2,18 @@
 use mathlib.Core.Path.{_≡_}
 use mathlib.Core.List.{List}
 use Prim.Native.Nat.{ℕ}
+use lib.ListN.{length, take, drop}
+use Rattle.form.specs.Octets.{be}
 use Rattle.form.specs.Fmt.{Out, bad, good}
+use Rattle.form.specs.Body.{spell}
+use Rattle.form.specs.Shape.{micros}
 use Rattle.form.specs.Record.{Rec, size, timeOf}
 use Rattle.form.specs.Gives.{Gives}
 use Rattle.page.specs.Layout.{layout, kind}
 use Rattle.shown.specs.declared.Header.{Header}
 use Rattle.shown.specs.declared.Shown.{Shown}
 use Rattle.shown.specs.declared.Shown.the-variants.{Nothing, Refused, Unread, TableDump, PeerTable, Rib, RibGeneric, Change, Message}
-use Rattle.reading.specs.Answer.{fault, place, time}
+use Rattle.reading.specs.Answer.{fault, place, time, within}
 use Rattle.writing.specs.Times.{microOf}
 use Rattle.writing.specs.Only.{tableDumps, peerTables, ribs, genericRibs, changes, messages, unreads, writer}
 use Rattle.round_trip.specs.Again.{clock, again}
@@ -38,11 +42,30 @@ writerOf (RibGeneric h f i r) = genericRibs
 writerOf (Change h e o n) = changes
 writerOf (Message h e b k) = messages
 
--- what is shown of a record: no fault, where it ends, its time, its kind, and its very fields
+-- a record's header
+abbrev pub headOf : (most : ℕ) → Rec → Header
+headOf most r =
+    record { timestamp = r .stamp; ty = r .type; subtype = r .sub; length = length (spell (r .body)); microseconds = micros (layout most (r .type) (r .sub)) (r .body) }
+
+-- the type shown of a BGP message is the octet behind its marker and length
+abbrev pub Typed : List ℕ → Shown → Type 0
+Typed s Nothing = Unit
+Typed s (Refused n p) = Unit
+Typed s (Unread h c) = Unit
+Typed s (TableDump h r) = Unit
+Typed s (PeerTable h p) = Unit
+Typed s (Rib h r) = Unit
+Typed s (RibGeneric h f i r) = Unit
+Typed s (Change h e o n) = Unit
+Typed s (Message h e b k) = k ≡ be (take 1 (drop 18 (within s b)))
+
+-- what is shown of a record: no fault, where it ends, its header and time, its kind, and its very fields
 pub record Same (most : ℕ) (s : List ℕ) (r : Rec) (x : Shown) : Type 0 where
   pub accepted : fault x ≡ 0
   pub ends : place x ≡ size r
   pub timed : time (headerOf x) ≡ timeOf (layout most) r
+  pub headed : headerOf x ≡ headOf most r
+  pub typed : Typed s x
   pub whose : writerOf x ≡ writer (kind (r .type) (r .sub))
   pub gives : Gives (again s x) r
 
