@@ -1,7 +1,7 @@
 -- Types 16 and 17 show the record's fields, also behind microseconds. Assumes nothing.
-use mathlib.Core.Path.{_≡_, refl, sym, ap, _∙_}
+use mathlib.Core.Path.{_≡_, refl, sym, _∙_}
 use mathlib.Core.Bool.{Bool, true, false, cond}
-use mathlib.Core.Logic.{_⊎_, inl, inr}
+use mathlib.Core.Logic.{inl, inr}
 use mathlib.Core.List.{List, [], _∷_, _++_, append-assoc}
 use Prim.Native.Nat.{ℕ, _+_}
 use lib.ListN.{length, take, drop}
@@ -13,7 +13,6 @@ use Rattle.form.specs.Body.{plain, readBody, spell}
 use Rattle.form.specs.Shape.{St, plan, fields, micros}
 use Rattle.form.specs.Pass.{Seen, numberOf, pass, whole}
 use Rattle.form.specs.Put.{Value}
-use Rattle.form.specs.Gives.{Gives}
 use Rattle.form.proofs.Octets.{toBe-at, be-below}
 use Rattle.form.proofs.Pass.{seen}
 use Rattle.form.proofs.Whole.{number-find}
@@ -37,11 +36,11 @@ use Rattle.writing.specs.Givens.{bgpGiven}
 use Rattle.writing.specs.declared.Time.{Time}
 use Rattle.writing.specs.declared.Time.the-variants.{Seconds, Micro}
 use Rattle.round_trip.specs.Again.{finer, clock, again}
-use Rattle.round_trip.specs.Agrees.{headerOf, writerOf, Typed, Same}
+use Rattle.round_trip.specs.Agrees.{headerOf, writerOf, Same}
 use Rattle.round_trip.proofs.Choice.{Bgp}
 use Rattle.round_trip.proofs.Parts.{by-parts, rest-here}
 use Rattle.round_trip.proofs.Same.{head, rec, Stands, Reads, same, fields-agree}
-use Rattle.round_trip.proofs.Bgp4mp.{Spells, changeOf, messageOf, change-parts, message-parts}
+use Rattle.round_trip.proofs.Bgp4mp.{Told, changeOf, messageOf, change-parts, message-parts}
 
 abbrev rest : List Seen → List Seen
 rest [] = []
@@ -62,9 +61,11 @@ behind-whole : (m : List ℕ) (f : Fmt) (g : ℕ → List Seen → Shown)
 unfolding stamped num pass
 behind-whole m f g = behind-micro m (λ n at. whole (g n) Refused f m at)
 
-module _ (most : ℕ) (s m q : List ℕ) (t y u len : ℕ) (l : Stands s m q len) (micro : ℕ) (k : Kind) (kd : kind y u ≡ k) (f : Fmt) (laid : layoutOf most k ≡ fields (stamped micro f))
+-- f is the layout behind the microseconds, and values what a writer takes for it
+module _ (most : ℕ) (s m q : List ℕ) (t y u len : ℕ) (l : Stands s m q len) (micro : ℕ) (k : Kind) (kd : kind y u ≡ k)
+    (f : Fmt) (laid : layoutOf most k ≡ fields (stamped micro f))
     (show : Header → List Seen → Shown) (values : List Seen → List Value)
-    (spelled : (i : ℕ) (cs : List (List ℕ)) (r : List ℕ) → join cs ++ r ≡ drop i s → Fits f cs → Spells (values (seen f i cs)) cs × (0 ≡ numberOf microseconds (seen f i cs)) × ((h : Header) → Typed s (show h (seen f i cs))))
+    (spelled : (i : ℕ) (cs : List (List ℕ)) (r : List ℕ) → join cs ++ r ≡ drop i s → Fits f cs → Told s show values cs (seen f i cs))
     (shown : (h : Header) (fs : List Seen) → (fault (show h fs) ≡ 0) × (place (show h fs) ≡ end h) × (headerOf (show h fs) ≡ h) × (writerOf (show h fs) ≡ writer k))
     (given : (n : ℕ) (i : Time) → clock (head t y u len n) ≡ i → bgp4mp i ≡ y → (fs : List Seen) → again s (show (head t y u len n) fs) ≡ bgpGiven i u (values fs)) where
   plainly : y ≡ 16 → micro ≡ 0 → (cs : List (List ℕ)) → Fits f cs → join cs ≡ drop 12 m → Same most s (rec t y u (plain cs)) (show (head t y u len 0) (seen f 12 cs))

@@ -1,50 +1,38 @@
 -- Types 16 and 17: what is shown are the record's fields. Assumes nothing.
 use mathlib.Core.Path.{_≡_, refl, sym, ap, _∙_}
 use mathlib.Core.Bool.{Bool, true, false, cond}
-use mathlib.Core.Logic.{_⊎_, inl, inr}
-use mathlib.Core.List.{List, [], _∷_, _++_, append-assoc, append-nil}
+use mathlib.Core.List.{List, [], _∷_, _++_, append-assoc}
 use Prim.Native.Nat.{ℕ, _+_, _-_, _≤_}
 use native.Mathlib.Omega.{arith}
 use lib.ListN.{length, take, drop, length-append}
 use native.Mathlib.Nat.{add-assoc}
 use lib.Seq.{take-add, drop-drop, take-at, drop-at}
-use lib.Dec.{eqb, ltb, leb}
+use lib.Dec.{eqb, leb}
 use borrow.Author.Tests.{leb-true}
 use Rattle.form.specs.Octets.{be}
-use Rattle.form.specs.Fmt.{Fmt, end, Fits, join}
+use Rattle.form.specs.Fmt.{Fmt}
 use Rattle.form.specs.Words as words
-use Rattle.form.specs.Words.{choose, num, skip, checked, must, area, fail}
-use Rattle.form.specs.Body.{plain, readBody, spell}
-use Rattle.form.specs.Shape.{St, plan, micros}
-use Rattle.form.specs.Pass.{Seen, numberOf, placeOf, whole, pass}
+use Rattle.form.specs.Words.{num, skip, checked, must, area, fail}
+use Rattle.form.specs.Pass.{Seen, numberOf, placeOf}
 use Rattle.form.specs.Put.{Value, lay}
-use Rattle.form.specs.Gives.{Fit, Gives}
-use Rattle.form.proofs.Whole.{number-find}
-use Rattle.form.proofs.Pass.{seen}
-use Rattle.num.specs.Be.{numAt}
-use Rattle.flow.specs.Field.{fieldAt}
-use Rattle.flow.specs.declared.Num.the-variants as one
+use Rattle.form.specs.Gives.{Fit}
 use Rattle.page.specs.Names.{microseconds, peerAs, localAs, interface, family, oldState, newState, marker, bgpLength}
 use Rattle.page.specs.Bgp4mp.{addresses, session, state, stateChange, message, messageRest}
-use Rattle.page.specs.Layout.{kind, layoutOf, stamped}
-use Rattle.page.specs.declared.Kind.{Kind}
-use Rattle.page.specs.declared.Kind.the-variants.{Change, Message}
 use Rattle.shown.specs.Told as show
 use Rattle.shown.specs.declared.Header.{Header}
 use Rattle.shown.specs.declared.Shown.{Shown}
-use Rattle.shown.specs.declared.Shown.the-variants.{Refused}
 use Rattle.reading.specs.Answer.{within}
-use Rattle.reading.specs.One.{microAt, behind}
-use Rattle.writing.specs.Givens.{sessionValues, stateValues, bgpValues, bgpGiven}
-use Rattle.writing.specs.declared.Time.the-variants.{Seconds, Micro}
-use Rattle.round_trip.specs.Again.{again}
+use Rattle.writing.specs.Givens.{sessionValues, stateValues, bgpValues}
 use Rattle.round_trip.specs.Agrees.{Typed}
-use Rattle.round_trip.proofs.Parts.{Lies, Parts, by-parts, parts-choose, spells, below}
-use Rattle.round_trip.proofs.Same.{head, rec, Stands, Reads, same, fields-agree}
+use Rattle.round_trip.proofs.Parts.{Lies, Parts, parts-choose, spells, below}
 
 -- values that are written as those fields
 abbrev pub Spells : List Value → List (List ℕ) → Type 0
 Spells vs cs = Fit vs × (lay vs ≡ cs)
+
+-- what a writer is given of the fields that were seen is written as they were read
+abbrev pub Told : (s : List ℕ) (show : Header → List Seen → Shown) (values : List Seen → List Value) → List (List ℕ) → List Seen → Type 0
+Told s show values cs fs = Spells (values fs) cs × (0 ≡ numberOf microseconds fs) × ((h : Header) → Typed s (show h fs))
 
 -- a session whose addresses have so many octets
 abbrev sized : (w size : ℕ) → Fmt → Fmt
@@ -69,7 +57,7 @@ module _ (s : List ℕ) (w : ℕ) where
   abbrev pub messageOf : List Seen → List Value
   messageOf fs = sessionOf fs (bgpValues (within s (record { at = placeOf marker fs; size = numberOf bgpLength fs })))
 
-  pub change-parts : (i : ℕ) → Parts s (session w stateChange) i (λ cs fs. Spells (changeOf fs) cs × (0 ≡ numberOf microseconds fs) × ((h : Header) → Typed s (show.change h fs)))
+  pub change-parts : (i : ℕ) → Parts s (session w stateChange) i (Told s show.change changeOf)
   unfolding Parts num skip checked addresses state stateChange
   change-parts i =
       parts-session s w stateChange i _
@@ -115,7 +103,7 @@ long n most e = go (leb 19 n) (leb n most) refl e
     go true u p z = leb-true 19 n p
     go false u p z = absurd (omega arith)
 
-pub message-parts : (s : List ℕ) (w most i : ℕ) → Parts s (session w (message most)) i (λ cs fs. Spells (messageOf s w fs) cs × (0 ≡ numberOf microseconds fs) × ((h : Header) → Typed s (show.message h fs)))
+pub message-parts : (s : List ℕ) (w most i : ℕ) → Parts s (session w (message most)) i (Told s show.message (messageOf s w))
 unfolding Parts num skip checked addresses message messageRest must area
 message-parts s w most i =
     parts-session s w (message most) i _

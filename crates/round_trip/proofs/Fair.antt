@@ -1,10 +1,10 @@
 -- What each writer is given is of that writer's form. Assumes nothing.
-use mathlib.Core.Path.{_≡_, refl}
-use mathlib.Core.Logic.{_⊎_, inl, inr}
-use mathlib.Core.List.{List, [], _∷_, _++_}
-use Prim.Native.Nat.{ℕ, _+_, _<_}
+use mathlib.Core.Path.{refl}
+use mathlib.Core.Logic.{inl, inr}
+use mathlib.Core.List.{List, _++_}
+use Prim.Native.Nat.{ℕ, _+_}
 use native.Mathlib.Omega.{arith}
-use lib.ListN.{take, drop}
+use lib.ListN.{drop}
 use Rattle.form.specs.Octets.{Octets}
 use Rattle.form.specs.Words.{choose}
 use Rattle.form.specs.Put.{Value}
@@ -12,7 +12,7 @@ use Rattle.form.specs.Gives.{OctetsIn}
 use Rattle.form.proofs.Octets.{octets-take, octets-drop}
 use Rattle.writing.specs.Times.{microOf, micros}
 use Rattle.writing.specs.Only.{tableDumps, peerTables, ribs, genericRibs, changes, messages, unreads}
-use Rattle.writing.specs.Givens.{unreadGiven, tableDumpGiven, peerTableGiven, ribGiven, ribGenericGiven, changeGiven, messageGiven}
+use Rattle.writing.specs.Givens.{bgpValues, unreadGiven, tableDumpGiven, peerTableGiven, ribGiven, ribGenericGiven, changeGiven, messageGiven}
 use Rattle.writing.specs.declared.Time.{Time}
 use Rattle.writing.specs.declared.Time.the-variants.{Seconds, Micro}
 use Rattle.round_trip.specs.Forms.{formsFor}
@@ -48,8 +48,9 @@ fair-change i u p l f k theirs ours o n x y =
 
 pub fair-message : (i : Time) (u p l f k : ℕ) (theirs ours b : List ℕ) → Octets theirs → Octets ours → Octets b → Fair messages (messageGiven i u p l f k theirs ours b)
 fair-message i u p l f k theirs ours b x y z =
+    let parts : OctetsIn (bgpValues b) = (octets-take 16 b z, (octets-take 2 (drop 16 b) (octets-drop 16 b z), (octets-take 1 (drop 18 b) (octets-drop 18 b z), (octets-drop 19 b z, tt)))) in
     record {
-      octets = behind-time i _ (tt, (tt, (tt, (tt, (x, (y, (octets-take 16 b z, (octets-take 2 (drop 16 b) (octets-drop 16 b z), (octets-take 1 (drop 18 b) (octets-drop 18 b z), (octets-drop 19 b z, tt))))))))));
+      octets = behind-time i _ (tt, (tt, (tt, (tt, (x, (y, parts))))));
       tail = inr (inr refl);
       form = formed-message i u p l f k theirs ours b;
     }

@@ -1,17 +1,14 @@
 -- Two givens of one form that give the same record are the same; so reading shows the very values that were written. Assumes nothing.
 use mathlib.Core.Path.{_≡_, refl, sym, ap, _∙_}
-use mathlib.Core.Bool.{Bool, true, false}
-use mathlib.Core.Option.{Option, none, some}
-use mathlib.Core.List.{List, [], _∷_, _++_}
+use mathlib.Core.List.{List, [], _∷_}
 use Prim.Native.Nat.{ℕ, _^_, _<_}
 use native.Mathlib.Omega.{arith}
-use Rattle.form.specs.Octets.{Octets, be, toBe}
+use Rattle.form.specs.Octets.{be, toBe}
 use Rattle.form.specs.Words.{choose}
 use Rattle.form.specs.Record.{Rec}
 use Rattle.form.specs.Put.{Value, digits, bytes, spelled, lay, Tail, Given}
 use Rattle.form.specs.Gives.{FitOne, Fit, Gives}
 use Rattle.form.proofs.Octets.{be-toBe}
-use Rattle.shown.specs.declared.Header.{Header}
 use Rattle.shown.specs.declared.Shown.{Shown}
 use Rattle.shown.specs.declared.Shown.the-variants.{Nothing, Refused, Unread, TableDump, PeerTable, Rib, RibGeneric, Change, Message}
 use Rattle.reading.specs.Answer.{within}

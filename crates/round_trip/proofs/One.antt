@@ -1,26 +1,25 @@
 -- Reading one record refuses with the number and place of the record grammar's reader, and shows that record's fields. Assumes nothing.
-use mathlib.Core.Path.{_≡_, refl, sym, ap, _∙_, subst}
+use mathlib.Core.Path.{_≡_, refl, sym, ap, _∙_}
 use mathlib.Core.Bool.{Bool, true, false}
 use mathlib.Core.List.{List, [], _∷_, _++_}
 use Prim.Native.Nat.{ℕ, zero, suc, _+_, _-_, _≤_, _<_}
 use native.Mathlib.Omega.{arith}
-use lib.Dec.{eqb, ltb}
+use lib.Dec.{ltb}
 use lib.ListN.{length, take, drop, length-drop, take-append-drop}
 use lib.Seq.{drop-drop, drop-at, take-add, length-take-le, take-append-le, drop-append-le}
-use borrow.Author.Tests.{lt-ltb, le-ltb, ltb-true, ltb-false, ne-eqb}
-use Rattle.form.specs.Octets.{Octets, be}
-use Rattle.form.specs.Fmt.{Out, bad, good, bind, refuseIf, read}
+use borrow.Author.Tests.{le-ltb, ltb-false, ne-eqb}
+use Rattle.form.specs.Octets.{Octets}
+use Rattle.form.specs.Fmt.{bad, good, bind, refuseIf, read}
 use Rattle.form.specs.Words.{choose}
-use Rattle.form.specs.Body.{Body, readBody}
+use Rattle.form.specs.Body.{readBody}
 use Rattle.form.specs.Shape.{St, plan}
-use Rattle.form.specs.Record.{Rec, header, readRec}
+use Rattle.form.specs.Record.{header, readRec}
 use Rattle.form.proofs.Octets.{octets-take}
 use Rattle.num.specs.Be.{numAt}
 use Rattle.page.specs.Layout.{kind, layoutOf, layout}
 use Rattle.page.specs.declared.Kind.{Kind}
 use Rattle.page.specs.declared.Kind.the-variants as chosen
-use Rattle.shown.specs.declared.Shown.{Shown}
-use Rattle.shown.specs.declared.Shown.the-variants.{Nothing, Refused}
+use Rattle.shown.specs.declared.Shown.the-variants.{Refused}
 use Rattle.shown.specs.declared.Table.{Table}
 use Rattle.reading.specs.One.{shownAs, wholeRecord, readOne}
 use Rattle.round_trip.specs.Tells.{Tells}

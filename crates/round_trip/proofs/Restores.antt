@@ -1,5 +1,5 @@
 -- Writing back what reading one record showed restores its octets. Assumes nothing.
-use mathlib.Core.Path.{_≡_, refl, sym, ap, _∙_}
+use mathlib.Core.Path.{_≡_, sym, ap, _∙_}
 use mathlib.Core.List.{List, _++_}
 use Prim.Native.Nat.{ℕ, _+_, _≤_, _<_}
 use native.Mathlib.Omega.{arith}
@@ -11,7 +11,7 @@ use Rattle.form.specs.Fmt.{Out, bad, good}
 use Rattle.form.specs.Words.{choose}
 use Rattle.form.specs.Shape.{St, noTable}
 use Rattle.form.specs.Record.{Rec, write, readRec, Valid}
-use Rattle.form.specs.Put.{Given, octets, recordRefusal}
+use Rattle.form.specs.Put.{octets, recordRefusal}
 use Rattle.form.proofs.Fmt.{Right}
 use Rattle.form.proofs.Record.{length-write, sound-rec}
 use Rattle.form.proofs.Given.{restores}

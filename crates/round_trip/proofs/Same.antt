@@ -1,13 +1,13 @@
 -- What is the same for all layouts: a fault, the end of a record and its time. Assumes nothing.
 use mathlib.Core.Path.{_≡_, refl, sym, ap, _∙_}
-use mathlib.Core.List.{List, [], _∷_, _++_, append-assoc}
+use mathlib.Core.List.{List, _∷_, _++_, append-assoc}
 use Prim.Native.Nat.{ℕ, _+_, _-_, _<_, _≤_}
 use native.Mathlib.Omega.{arith}
 use lib.ListN.{length, take, drop, length-append, length-drop}
 use lib.Seq.{take-at}
 use Rattle.form.specs.Octets.{Octets, toBe}
 use Rattle.form.specs.Fmt.{Out, bad, good, bind, Fmt, Fits, join}
-use Rattle.form.specs.Body.{joins, AllFits, Body, plain, loose, listed, just, free, many, readBody, spell, BodyFits}
+use Rattle.form.specs.Body.{joins, Body, plain, loose, listed, just, free, many, readBody, spell, BodyFits}
 use Rattle.form.specs.Record.{Rec, timeOf}
 use Rattle.form.specs.Shape.{micros}
 use Rattle.form.specs.Pass.{Seen, pass, whole, _⨾_, counted}

@@ -1,7 +1,7 @@
 -- Reading what a writer did not refuse shows what it was given. Assumes nothing.
-use mathlib.Core.Path.{_≡_, refl, sym, ap, _∙_}
+use mathlib.Core.Path.{_≡_, sym, ap, _∙_}
 use mathlib.Core.List.{List, [], _∷_, _++_}
-use Prim.Native.Nat.{ℕ, _+_, _<_}
+use Prim.Native.Nat.{ℕ, _+_}
 use native.Mathlib.Omega.{arith}
 use lib.ListN.{length, length-append}
 use Rattle.form.specs.Octets.{Octets, toBe}
@@ -18,12 +18,11 @@ use Rattle.form.proofs.Given.{shows}
 use Rattle.page.specs.Layout.{layout, kind}
 use Rattle.page.specs.declared.Kind.{Kind}
 use Rattle.shown.specs.declared.Table.{Table}
-use Rattle.reading.specs.Answer.{fault, place}
+use Rattle.reading.specs.Answer.{place}
 use Rattle.reading.specs.One.{readOne}
 use Rattle.writing.specs.Only.{writer, only}
 use Rattle.round_trip.specs.Tells.{Tells}
-use Rattle.round_trip.specs.Again.{again}
-use Rattle.round_trip.specs.Agrees.{writerOf, Same, Agrees}
+use Rattle.round_trip.specs.Agrees.{Same}
 use Rattle.round_trip.proofs.One.{one-record}
 use Rattle.round_trip.proofs.Only.{only-own, refusal-own}
 
@@ -48,7 +47,8 @@ octets-rec : (most : ℕ) (st : St) (r : Rec) → Valid (layout most) st r → O
 unfolding write
 octets-rec most st r v =
     octets-append (join (head r (length (spell (r .body))))) (spell (r .body))
-    (octets-head (toBe 4 (r .stamp)) (toBe 2 (r .type)) (toBe 2 (r .sub)) (toBe 4 (length (spell (r .body)))) (octets-toBe 4 (r .stamp)) (octets-toBe 2 (r .type)) (octets-toBe 2 (r .sub)) (octets-toBe 4 (length (spell (r .body)))))
+    (octets-head (toBe 4 (r .stamp)) (toBe 2 (r .type)) (toBe 2 (r .sub)) (toBe 4 (length (spell (r .body))))
+    (octets-toBe 4 (r .stamp)) (octets-toBe 2 (r .type)) (octets-toBe 2 (r .sub)) (octets-toBe 4 (length (spell (r .body)))))
     (octets-spell (plan st (layout most (r .type) (r .sub))) (r .body) (v .fits))
 
 -- ---- the law

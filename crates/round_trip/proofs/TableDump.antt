@@ -1,9 +1,8 @@
 -- Type 12: what is shown are the record's fields. Assumes nothing.
-use mathlib.Core.Path.{_≡_, refl, sym, ap, _∙_}
-use mathlib.Core.List.{List, [], _∷_, _++_}
-use Prim.Native.Nat.{ℕ, _+_}
-use lib.ListN.{length, drop}
-use Rattle.form.specs.Fmt.{Fits, join}
+use mathlib.Core.Path.{_≡_, refl, sym, _∙_}
+use mathlib.Core.List.{List}
+use Prim.Native.Nat.{ℕ}
+use lib.ListN.{drop}
 use Rattle.form.specs.Words.{num, skip, checked, tested}
 use Rattle.form.specs.Body.{plain, readBody, spell}
 use Rattle.form.specs.Shape.{St, plan, micros}

@@ -1,5 +1,5 @@
 -- Type 13: what is shown are the record's fields. Assumes nothing.
-use mathlib.Core.Path.{_≡_, refl, sym, ap, ap₂, _∙_}
+use mathlib.Core.Path.{_≡_, refl, sym, ap₂, _∙_}
 use mathlib.Core.List.{List, [], _∷_, _++_, append-assoc}
 use Prim.Native.Nat.{ℕ, zero, suc, _+_, _-_, _<_}
 use native.Mathlib.Omega.{arith}
@@ -18,7 +18,7 @@ use Rattle.form.proofs.Octets.{be-toBe}
 use Rattle.form.proofs.Pass.{seen}
 use Rattle.form.proofs.Then.{flat}
 use Rattle.page.specs.Names.{sequence, family, safi, peerCount, entryCount}
-use Rattle.page.specs.Rib.{prefix, ribHead, genericHead, entryRest, entry, entryList, rib, ribGeneric}
+use Rattle.page.specs.Rib.{prefix, ribHead, genericHead, entry, entryList, rib, ribGeneric}
 use Rattle.page.specs.Peers.{tableHead, peer, peerList, peerTable}
 use Rattle.page.specs.Layout.{kind, layoutOf}
 use Rattle.page.specs.declared.Kind.{Kind}
@@ -48,7 +48,8 @@ unfolding seen Fits _⨾_
 seen-then (end b) g i [] ds h = let e : i + 0 ≡ i = omega arith in rw e
 seen-then (test n b f) g i cs ds h = seen-then f g i cs ds (h .1)
 seen-then (field x l b k) g i (c ∷ cs) ds h =
-    rw (seen-then (k c) g (i + length c) cs ds (h .2), length-append, ← add-assoc) (note-then x i (length c) (i + length c) (be c) (seen (k c) (i + length c) cs) (seen g (i + length c + length (join cs)) ds))
+    rw (seen-then (k c) g (i + length c) cs ds (h .2), length-append, ← add-assoc)
+    (note-then x i (length c) (i + length c) (be c) (seen (k c) (i + length c) cs) (seen g (i + length c + length (join cs)) ds))
 
 module _ (most : ℕ) (s m q : List ℕ) (t y u len : ℕ) (l : Stands s m q len) where
   -- the count and the items, as a writer is given them
@@ -67,7 +68,8 @@ module _ (most : ℕ) (s m q : List ℕ) (t y u len : ℕ) (l : Stands s m q len
         → Gives (again s (to (fs ++ seen (counted x g) (12 + length (join cs)) (toBe 2 (length its) ∷ flat its)))) (rec t y u (listed cs its))
 
     listed-agrees : (f : Fmt) (k : Kind) → kind y u ≡ k → ((cs : List (List ℕ)) (its : List (List (List ℕ))) → 0 ≡ micros (layoutOf most k) (listed cs its))
-        → ((fs : List Seen) → (fault (to fs) ≡ 0) × (place (to fs) ≡ 12 + len) × (headerOf (to fs) ≡ head t y u len 0) × (writerOf (to fs) ≡ writer k) × Typed s (to fs)) → ((its : List (List (List ℕ))) → Parts s f 12 (Shows its))
+        → ((fs : List Seen) → (fault (to fs) ≡ 0) × (place (to fs) ≡ 12 + len) × (headerOf (to fs) ≡ head t y u len 0) × (writerOf (to fs) ≡ writer k) × Typed s (to fs))
+        → ((its : List (List (List ℕ))) → Parts s f 12 (Shows its))
         → Reads most s m q t y u len l (readBody (many f g) 12 (drop 12 m)) (whole to Refused (f ⨾ counted x g) m 12)
     unfolding spell
     listed-agrees f k kd z shown parts =
@@ -132,7 +134,8 @@ module _ (most : ℕ) (s m q : List ℕ) (t y u len : ℕ) (l : Stands s m q len
     unfolding Parts seen num checked
     generic-parts e d its =
         λ n hn f hf known i hi listed.
-        parts-choose s (leb (be f) 1) (prefix 32 (end 0)) (prefix 128 (end 0)) _ _ (λ v. generic-sized 32 e d its n hn f hf known i hi listed) (λ v. generic-sized 128 e d its n hn f hf known i hi listed)
+        parts-choose s (leb (be f) 1) (prefix 32 (end 0)) (prefix 128 (end 0)) _ _
+        (λ v. generic-sized 32 e d its n hn f hf known i hi listed) (λ v. generic-sized 128 e d its n hn f hf known i hi listed)
 
   pub rib-agrees : (table : Table) (st : St) → Tells table st → (bits : ℕ) → y ≡ 13 → kind y u ≡ Rib bits
       → Reads most s m q t y u len l (readBody (plan st (layoutOf most (Rib bits))) 12 (drop 12 m))

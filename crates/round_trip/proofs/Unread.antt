@@ -1,18 +1,17 @@
 -- Contents that are carried unread: they are shown where they lie. Assumes nothing.
-use mathlib.Core.Path.{_≡_, refl, sym, ap, _∙_}
+use mathlib.Core.Path.{_≡_, refl, ap, _∙_}
 use mathlib.Core.Bool.{true, false}
-use mathlib.Core.Logic.{_⊎_, inl, inr}
-use mathlib.Core.List.{List, [], _∷_, _++_, append-nil}
+use mathlib.Core.Logic.{inl, inr}
+use mathlib.Core.List.{List, [], _∷_, _++_}
 use Prim.Native.Nat.{ℕ, _+_}
 use lib.ListN.{length, drop}
 use Rattle.form.specs.Octets.{be}
-use Rattle.form.specs.Fmt.{Fmt, end, Fits, find, join}
+use Rattle.form.specs.Fmt.{end, Fits, find, join}
 use Rattle.form.specs.Words.{choose, num}
 use Rattle.form.specs.Body.{loose, readBody, spell}
 use Rattle.form.specs.Shape.{St, plan, micros}
 use Rattle.form.specs.Pass.{Seen, numberOf, pass}
 use Rattle.form.specs.Put.{carried}
-use Rattle.form.specs.Gives.{Gives}
 use Rattle.form.proofs.Octets.{toBe-at, be-below}
 use Rattle.form.proofs.Pass.{seen}
 use Rattle.page.specs.Names.{microseconds}

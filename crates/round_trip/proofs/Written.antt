@@ -1,7 +1,6 @@
 -- Reading what a writer wrote shows the very values that it was given. Assumes nothing.
-use mathlib.Core.Path.{_≡_, refl, sym, ap, _∙_}
+use mathlib.Core.Path.{_≡_, refl, sym, _∙_}
 use mathlib.Core.Bool.{Bool, true, false}
-use mathlib.Core.Logic.{_⊎_, inl, inr}
 use mathlib.Core.List.{List, _++_}
 use Prim.Native.Nat.{ℕ, zero, suc, _+_}
 use native.Mathlib.Omega.{arith}
@@ -13,18 +12,18 @@ use Rattle.form.specs.Shape.{Layout, St, plan}
 use Rattle.form.specs.Put.{Given, octets, recordRefusal}
 use Rattle.form.specs.Gives.{OctetsIn, Shaped}
 use Rattle.form.proofs.Octets.{octets-drop}
-use Rattle.page.specs.Layout.{layout, layoutOf, kind}
+use Rattle.page.specs.Layout.{layout, kind}
 use Rattle.page.specs.declared.Kind.the-variants.{Refused}
 use Rattle.shown.specs.declared.Table.{Table}
 use Rattle.reading.specs.Answer.{place}
 use Rattle.reading.specs.One.{readOne}
-use Rattle.writing.specs.Only.{writer, only, asOctets}
+use Rattle.writing.specs.Only.{writer, only}
 use Rattle.writing.specs.Verdict.{written, holds, answers, leaves}
 use Rattle.writing.specs.declared.Written.the-variants as one
 use Rattle.round_trip.specs.Tells.{Tells}
-use Rattle.round_trip.specs.Again.{finer, again}
+use Rattle.round_trip.specs.Again.{again}
 use Rattle.round_trip.specs.Agrees.{writerOf}
-use Rattle.round_trip.specs.Forms.{forms, formsFor, Formed, TailFor}
+use Rattle.round_trip.specs.Forms.{forms, Formed, TailFor}
 use Rattle.round_trip.proofs.Choice.{kind-says}
 use Rattle.round_trip.proofs.Only.{only-own, refusal-own, body-refusal, own-writer}
 use Rattle.round_trip.proofs.Shows.{ShownBack, shows-fields}
@@ -45,7 +44,8 @@ wrote l st g out k e = let z = go (recordRefusal l st g) e in record { refused =
     xs : List ℕ
     xs = octets g
 
-    room : (b : Bool) → choose b (one.Refused 15) (one.Octets (length xs)) ≡ one.Octets k → (_≡_ {A = ℕ} 0 0) × (k ≡ length xs) × (choose b out (xs ++ drop (length xs) out) ≡ xs ++ drop (length xs) out)
+    room : (b : Bool) → choose b (one.Refused 15) (one.Octets (length xs)) ≡ one.Octets k
+        → (_≡_ {A = ℕ} 0 0) × (k ≡ length xs) × (choose b out (xs ++ drop (length xs) out) ≡ xs ++ drop (length xs) out)
     room true d = let z : _≡_ {A = ℕ} 0 1 = cc in absurd (omega arith)
     room false d = (refl, (cc), refl)
 

@@ -6,10 +6,6 @@ use lib.Dec.{eqb}
 use Rattle.form.specs.Words.{choose}
 use Rattle.form.specs.Put.{Given, nothing}
 use Rattle.shown.specs.declared.Header.{Header}
-use Rattle.shown.specs.declared.Session.{Session}
-use Rattle.shown.specs.declared.Route.{Route}
-use Rattle.shown.specs.declared.Peers.{Peers}
-use Rattle.shown.specs.declared.Routes.{Routes}
 use Rattle.shown.specs.declared.Shown.{Shown}
 use Rattle.shown.specs.declared.Shown.the-variants.{Nothing, Refused, Unread, TableDump, PeerTable, Rib, RibGeneric, Change, Message}
 use Rattle.reading.specs.Answer.{within}
