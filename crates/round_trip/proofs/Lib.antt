@@ -1,0 +1,16 @@
+pub mod Parts
+pub mod Choice
+pub mod Same
+pub mod TableDump
+pub mod Bgp4mp
+pub mod Behind
+pub mod Unread
+pub mod Tables
+pub mod One
+pub mod Only
+pub mod Restores
+pub mod Shows
+pub mod Given
+pub mod Tails
+pub mod Written
+pub mod Fair

@@ -1,0 +1,66 @@
+-- Contents that are carried unread: they are shown where they lie. Assumes nothing.
+use mathlib.Core.Path.{_≡_, refl, ap, _∙_}
+use mathlib.Core.Bool.{true, false}
+use mathlib.Core.Logic.{inl, inr}
+use mathlib.Core.List.{List, [], _∷_, _++_}
+use Prim.Native.Nat.{ℕ, _+_}
+use lib.ListN.{length, drop}
+use Rattle.form.specs.Octets.{be}
+use Rattle.form.specs.Fmt.{end, Fits, find, join}
+use Rattle.form.specs.Words.{choose, num}
+use Rattle.form.specs.Body.{loose, readBody, spell}
+use Rattle.form.specs.Shape.{St, plan, micros}
+use Rattle.form.specs.Pass.{Seen, numberOf, pass}
+use Rattle.form.specs.Put.{carried}
+use Rattle.form.proofs.Octets.{toBe-at, be-below}
+use Rattle.form.proofs.Pass.{seen}
+use Rattle.page.specs.Names.{microseconds}
+use Rattle.page.specs.Layout.{kind, layoutOf, stamped}
+use Rattle.page.specs.declared.Kind.the-variants as chosen
+use Rattle.shown.specs.Told.{restFrom}
+use Rattle.shown.specs.declared.Shown.{Shown}
+use Rattle.shown.specs.declared.Shown.the-variants.{Refused, Unread}
+use Rattle.reading.specs.One.{microAt, behind}
+use Rattle.round_trip.specs.Again.{finer}
+use Rattle.round_trip.specs.Agrees.{Same}
+use Rattle.round_trip.proofs.Choice.{Says}
+use Rattle.round_trip.proofs.Behind.{behind-micro}
+use Rattle.round_trip.proofs.Same.{head, rec, Stands, Reads, same, rest-is, free-agree}
+
+behind-pass : (m : List ℕ) (g : ℕ → ℕ → Shown) → behind (microAt m 4) g ≡ pass (λ fs a p. g (numberOf microseconds fs) a) Refused (stamped 4 (end 0)) m 12
+unfolding stamped num pass
+behind-pass m g = behind-micro m g
+
+module _ (most : ℕ) (s m q : List ℕ) (t y u len : ℕ) (l : Stands s m q len) where
+  abbrev shows : List Seen → ℕ → Shown
+  shows fs a = Unread (head t y u len (numberOf microseconds fs)) (restFrom m a)
+
+  plainly : finer y ≡ false → kind y u ≡ chosen.Unread 0 → (cs : List (List ℕ)) (c : List ℕ) → Fits (end 0) cs → join cs ++ c ≡ drop 12 m
+      → Same most s (rec t y u (loose cs c)) (shows (seen (end 0) 12 cs) (12 + length (join cs)))
+  unfolding Fits find seen micros layoutOf stamped spell choose
+  plainly e kd [] c h j =
+      same most s m q t y u len l (chosen.Unread 0) kd (loose [] c) j 0 _ refl refl refl refl (rw e) tt
+      (rw e (record { stamp = refl; type = refl; sub = refl; fit = tt; front = refl; tail = ap carried (rest-is most s m q t y u len l [] c 12 j refl) }))
+
+  finely : finer y ≡ true → kind y u ≡ chosen.Unread 4 → (cs : List (List ℕ)) (c : List ℕ) → Fits (stamped 4 (end 0)) cs → join cs ++ c ≡ drop 12 m
+      → Same most s (rec t y u (loose cs c)) (shows (seen (stamped 4 (end 0)) 12 cs) (12 + length (join cs)))
+  unfolding Fits find seen micros layoutOf stamped num spell choose
+  finely e kd (b ∷ []) c h j =
+      same most s m q t y u len l (chosen.Unread 4) kd (loose (b ∷ []) c) j (be b) _ refl refl refl refl (rw e) tt
+      (rw e (record {
+        stamp = refl;
+        type = refl;
+        sub = refl;
+        fit = (be-below 4 b (h .0) (h .1), tt);
+        front = rw (toBe-at 4 b (h .0) (h .1));
+        tail = ap carried (rest-is most s m q t y u len l (b ++ []) c (12 + length (b ++ [])) j refl);
+      }))
+  finely e kd (b ∷ d ∷ cs) c h j = absurd (h .2)
+
+  pub unread-agrees : (st : St) (micro : ℕ) → Says y u (chosen.Unread micro) → kind y u ≡ chosen.Unread micro
+      → Reads most s m q t y u len l (readBody (plan st (layoutOf most (chosen.Unread micro))) 12 (drop 12 m))
+      (behind (microAt m micro) λ n at. Unread (head t y u len n) (restFrom m at))
+  unfolding plan layoutOf stamped microAt behind pass choose
+  unread-agrees st micro (inl (e, d)) kd = rw d (free-agree most s m q t y u len l (end 0) shows (plainly e (kd ∙ ap chosen.Unread d)))
+  unread-agrees st micro (inr (e, d)) kd =
+      rw (d, behind-pass m (λ n a. Unread (head t y u len n) (restFrom m a))) (free-agree most s m q t y u len l (stamped 4 (end 0)) shows (finely e (kd ∙ ap chosen.Unread d)))

@@ -1,0 +1,99 @@
+-- Reading what a writer wrote shows the very values that it was given. Assumes nothing.
+use mathlib.Core.Path.{_≡_, refl, sym, _∙_}
+use mathlib.Core.Bool.{Bool, true, false}
+use mathlib.Core.List.{List, _++_}
+use Prim.Native.Nat.{ℕ, zero, suc, _+_}
+use native.Mathlib.Omega.{arith}
+use lib.Dec.{ltb}
+use lib.ListN.{length, drop}
+use Rattle.form.specs.Octets.{Octets}
+use Rattle.form.specs.Words.{choose}
+use Rattle.form.specs.Shape.{Layout, St, plan}
+use Rattle.form.specs.Put.{Given, octets, recordRefusal}
+use Rattle.form.specs.Gives.{OctetsIn, Shaped}
+use Rattle.form.proofs.Octets.{octets-drop}
+use Rattle.page.specs.Layout.{layout, kind}
+use Rattle.page.specs.declared.Kind.the-variants.{Refused}
+use Rattle.shown.specs.declared.Table.{Table}
+use Rattle.reading.specs.Answer.{place}
+use Rattle.reading.specs.One.{readOne}
+use Rattle.writing.specs.Only.{writer, only}
+use Rattle.writing.specs.Verdict.{written, holds, answers, leaves}
+use Rattle.writing.specs.declared.Written.the-variants as one
+use Rattle.round_trip.specs.Tells.{Tells}
+use Rattle.round_trip.specs.Again.{again}
+use Rattle.round_trip.specs.Agrees.{writerOf}
+use Rattle.round_trip.specs.Forms.{forms, Formed, TailFor}
+use Rattle.round_trip.proofs.Choice.{kind-says}
+use Rattle.round_trip.proofs.Only.{only-own, refusal-own, body-refusal, own-writer}
+use Rattle.round_trip.proofs.Shows.{ShownBack, shows-fields}
+use Rattle.round_trip.proofs.Given.{same-given, formed-again}
+use Rattle.round_trip.proofs.Tails.{tail-shaped}
+
+-- ---- a writer that did not refuse
+
+pub record Wrote (l : ℕ → ℕ → Layout) (st : St) (g : Given) (out : List ℕ) (k : ℕ) : Type 0 where
+  pub refused : recordRefusal l st g ≡ 0
+  pub size : k ≡ length (octets g)
+  pub left : leaves l st g out ≡ octets g ++ drop (length (octets g)) out
+
+pub wrote : (l : ℕ → ℕ → Layout) (st : St) (g : Given) (out : List ℕ) (k : ℕ) → answers l st g out ≡ one.Octets k → Wrote l st g out k
+unfolding written holds choose
+wrote l st g out k e = let z = go (recordRefusal l st g) e in record { refused = z .0; size = z .1; left = z .2 }
+  where
+    xs : List ℕ
+    xs = octets g
+
+    room : (b : Bool) → choose b (one.Refused 15) (one.Octets (length xs)) ≡ one.Octets k
+        → (_≡_ {A = ℕ} 0 0) × (k ≡ length xs) × (choose b out (xs ++ drop (length xs) out) ≡ xs ++ drop (length xs) out)
+    room true d = let z : _≡_ {A = ℕ} 0 1 = cc in absurd (omega arith)
+    room false d = (refl, (cc), refl)
+
+    go : (r : ℕ) → written r xs out ≡ one.Octets k → (r ≡ 0) × (k ≡ length xs) × (holds r xs out ≡ xs ++ drop (length xs) out)
+    go zero d = room (ltb (length out) (length xs)) d
+    go (suc n) d = let z : _≡_ {A = ℕ} 0 1 = cc in absurd (omega arith)
+
+-- ---- and the values that it was given
+
+-- values of the writer's own form, and what follows them
+pub record Fair (n : ℕ) (g : Given) : Type 0 where
+  pub octets : OctetsIn (g .values)
+  pub tail : TailFor n (g .tail)
+  pub form : forms (g .values) ≡ Formed n g
+
+module _ (most : ℕ) (t : Table) (st : St) (tells : Tells t st) (n a p : ℕ) (g : Given) (fair : Fair n g) where
+  -- a writer of one kind, which lists no other
+  abbrev own : ℕ → ℕ → Layout
+  own = only n (Refused (suc a) p) most
+
+  module _ (e : recordRefusal own st g ≡ 0) (q : List ℕ) (oq : Octets q) where
+    abbrev s : List ℕ
+    s = octets g ++ q
+
+    n-own : n ≡ writer (kind (g .type) (g .sub))
+    n-own = own-writer n a p most st g e
+
+    shaped : Shaped (plan st (layout most (g .type) (g .sub))) (g .tail)
+    unfolding layout
+    shaped =
+        let own-layout = only-own n (Refused (suc a) p) most (g .type) (g .sub) n-own in
+        let z = sym (refusal-own own (layout most) st g own-layout) ∙ e in
+        tail-shaped most st (g .type) (g .sub) (kind (g .type) (g .sub)) (kind-says (g .type) (g .sub)) (g .values) (g .tail) (body-refusal (layout most) st g z) (rw (← n-own) (fair .tail))
+
+    back : ShownBack most g s t
+    back = shows-fields most t st tells n (Refused (suc a) p) g n-own e (fair .octets) shaped q oq
+
+    pub shows-given : (again s (readOne most t s) ≡ g) × (place (readOne most t s) ≡ length (octets g))
+    shows-given =
+        let h : Given = again s (readOne most t s) in
+        let y : h .type ≡ g .type = back .same .gives .type ∙ sym (back .given .type) in
+        let u : h .sub ≡ g .sub = back .same .gives .sub ∙ sym (back .given .sub) in
+        let w : writerOf (readOne most t s) ≡ n = back .same .whose ∙ rw (← (back .given .type), ← (back .given .sub)) (sym n-own) in
+        (same-given h g (back .rec) (back .same .gives) (back .given) (formed-again s (readOne most t s) ∙ rw (w, y, u) (sym (fair .form))), back .ends)
+
+  -- in the buffer that the writer left
+  pub shows-written : (out : List ℕ) (k : ℕ) → Octets out → answers own st g out ≡ one.Octets k
+      → (again (leaves own st g out) (readOne most t (leaves own st g out)) ≡ g) × (place (readOne most t (leaves own st g out)) ≡ k)
+  shows-written out k oc e =
+      let w = wrote own st g out k e in
+      rw (w .left, w .size) (shows-given (w .refused) (drop (length (octets g)) out) (octets-drop (length (octets g)) out oc))

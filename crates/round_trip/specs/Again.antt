@@ -1,0 +1,39 @@
+-- What a caller hands to a writer to write a record back that reading showed: the numbers shown, and the parts where they lie. Assumes nothing.
+use mathlib.Core.Bool.{Bool, _||_}
+use mathlib.Core.List.{List, []}
+use Prim.Native.Nat.{ℕ}
+use lib.Dec.{eqb}
+use Rattle.form.specs.Words.{choose}
+use Rattle.form.specs.Put.{Given, nothing}
+use Rattle.shown.specs.declared.Header.{Header}
+use Rattle.shown.specs.declared.Shown.{Shown}
+use Rattle.shown.specs.declared.Shown.the-variants.{Nothing, Refused, Unread, TableDump, PeerTable, Rib, RibGeneric, Change, Message}
+use Rattle.reading.specs.Answer.{within}
+use Rattle.writing.specs.declared.Time.{Time}
+use Rattle.writing.specs.declared.Time.the-variants.{Seconds, Micro}
+use Rattle.writing.specs.Givens.{unreadGiven, tableDumpGiven, peerTableGiven, ribGiven, ribGenericGiven, changeGiven, messageGiven}
+
+-- the types whose message starts with microseconds
+unfoldable pub finer : (type : ℕ) → Bool
+finer type = eqb type 17 || eqb type 33 || eqb type 49
+
+abbrev pub clock : Header → Time
+clock h = choose (finer (h .ty)) (Micro (h .timestamp) (h .microseconds)) (Seconds (h .timestamp))
+
+-- nothing was shown that a writer could take
+abbrev pub blank : Given
+blank = record { stamp = 0; type = 0; sub = 0; values = []; tail = nothing }
+
+-- s are the octets that were read
+abbrev pub again : List ℕ → Shown → Given
+again s Nothing = blank
+again s (Refused n p) = blank
+again s (Unread h c) = unreadGiven (clock h) (h .ty) (h .subtype) (within s c)
+again s (TableDump h r) =
+    tableDumpGiven (h .timestamp) (h .subtype) (r .view) (r .sequence) (within s (r .prefix)) (r .bits) (r .status) (r .originated) (within s (r .address)) (r .peer)
+    (within s (r .attributes))
+again s (PeerTable h p) = peerTableGiven (h .timestamp) (p .collector) (within s (p .name)) (p .count) (within s (p .peers))
+again s (Rib h r) = ribGiven (h .timestamp) (h .subtype) (r .sequence) (r .bits) (within s (r .prefix)) (r .count) (within s (r .entries))
+again s (RibGeneric h f i r) = ribGenericGiven (h .timestamp) (r .sequence) f i (r .bits) (within s (r .prefix)) (r .count) (within s (r .entries))
+again s (Change h e o n) = changeGiven (clock h) (h .subtype) (e .peer) (e .local) (e .interface) (e .family) (within s (e .theirs)) (within s (e .ours)) o n
+again s (Message h e b k) = messageGiven (clock h) (h .subtype) (e .peer) (e .local) (e .interface) (e .family) (within s (e .theirs)) (within s (e .ours)) (within s b)

@@ -1,0 +1,4 @@
+pub mod Tells
+pub mod Again
+pub mod Agrees
+pub mod Forms
