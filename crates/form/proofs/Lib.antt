@@ -2,6 +2,7 @@ pub mod Octets
 pub mod Fmt
 pub mod Body
 pub mod Record
+pub mod Exactly
 pub mod Dump
 pub mod Pass
 pub mod Then
