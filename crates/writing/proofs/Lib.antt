@@ -1,3 +1,6 @@
 pub mod Sums
 pub mod Answers
 pub mod Heads
+pub mod Turns
+pub mod Ready
+pub mod Items
