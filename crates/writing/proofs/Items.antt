@@ -1,15 +1,18 @@
 -- Items that a writer is given laid out, judged by the reader. Assumes nothing.
 use mathlib.Core.Path.{_≡_, refl, sym, ap, _∙_}
+use mathlib.Core.Bool.{Bool, true, false}
 use mathlib.Core.List.{List, [], _∷_}
-use Prim.Native.Nat.{ℕ, _+_, _-_, _≤_}
+use Prim.Native.Nat.{ℕ, _+_, _-_, _^_, _≤_}
 use native.Mathlib.Omega.{arith}
+use lib.Dec.{leb}
 use lib.ListN.{length, drop}
 use types.Run.{OneOf, miss}
 use denote.Enum.Declared.{tagOf}
 use Rattle.form.specs.Fmt.{Out, bad, good, bind, Fmt, read, join, overAt}
 use Rattle.form.specs.Body.{Body, plain, just, ended, readBody, readN}
 use Rattle.form.specs.Pass.{whole, times}
-use Rattle.form.specs.Put.{faultOf}
+use Rattle.form.specs.Put.{faultOf, items, itemsRefusal}
+use Rattle.flow.proofs.PutRules.{is-large, not-large}
 use Rattle.form.proofs.Then.{flat, flatly, read-times}
 use Rattle.form.proofs.Whole.{outcomeBody, whole-body}
 use Rattle.shown.specs.declared.Shown.{Shown}
@@ -40,7 +43,7 @@ not-refused (Change x s o n) h = refl
 not-refused (Message x s b t) h = refl
 
 -- reading n items and nothing behind them gives the items' fault
-pub items-fault : (g : Fmt) (n : ℕ) (raw : List ℕ) → refusedWith (whole (λ fs. Nothing) Refused (times n g) raw 0) ≡ faultOf (readN g n 0 raw)
+items-fault : (g : Fmt) (n : ℕ) (raw : List ℕ) → refusedWith (whole (λ fs. Nothing) Refused (times n g) raw 0) ≡ faultOf (readN g n 0 raw)
 unfolding readBody outcomeBody
 items-fault g n raw = ap refusedWith (whole-body (λ fs. Nothing) Refused (times n g) raw 0 (omega arith)) ∙ rw (read-times n g 0 raw) (go (readN g n 0 raw))
   where
@@ -48,3 +51,11 @@ items-fault g n raw = ap refusedWith (whole-body (λ fs. Nothing) Refused (times
     go (bad m p) = refl
     go (good its []) = refl
     go (good its (x ∷ r)) = refl
+
+-- a count that does not fit, and one that does, where the reader shows r; t is what a test by `large` says
+pub count-large : (g : Fmt) (n : ℕ) (raw : List ℕ) (t : Bool) → t ≡ leb (256 ^ 2) n → t ≡ true → 6 ≡ itemsRefusal g (items n raw)
+count-large g n raw t p q = sym (rw (is-large 2 n t p q))
+
+pub items-judged : (g : Fmt) (n : ℕ) (raw : List ℕ) (t : Bool) (r : Shown) → t ≡ leb (256 ^ 2) n → t ≡ false → r ≡ whole (λ fs. Nothing) Refused (times n g) raw 0
+    → refusedWith r ≡ itemsRefusal g (items n raw)
+items-judged g n raw t r p q e = rw (not-large 2 n t p q) (ap refusedWith e ∙ items-fault g n raw)

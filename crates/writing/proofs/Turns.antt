@@ -1,10 +1,13 @@
 -- A writer's fields in their turns: the header's, then whether the Subtype is the writer's own, then the message's. Assumes nothing.
 use mathlib.Core.Path.{_≡_, refl, sym, ap, _∙_}
 use mathlib.Core.Bool.{Bool, true, false}
+use mathlib.Core.List.{List}
 use Prim.Native.Nat.{ℕ, zero, suc, _≤_, _<_}
 use native.Mathlib.Omega.{arith}
 use lib.Dec.{eqb}
-use Rattle.form.specs.Put.{Given, orElse, large, bodyRefusal, fieldsRefusal}
+use Rattle.form.specs.Fmt.{Fmt}
+use Rattle.form.specs.Body.{many}
+use Rattle.form.specs.Put.{Value, Tail, Given, orElse, large, refusal, itemsRefusal, bodyRefusal, fieldsRefusal}
 use Rattle.form.specs.Shape.{Layout, St, plan}
 use Rattle.form.specs.Words.{choose}
 use Rattle.page.specs.Layout.{kind, layoutOf, unlisted}
@@ -19,6 +22,16 @@ or-first (suc n) m h = refl
 pub or-next : (n m : ℕ) → n ≤ 0 → m ≡ orElse n m
 or-next zero m h = refl
 or-next (suc n) m h = absurd (omega arith)
+
+-- a front and items: n is the number for the front
+module _ (f g : Fmt) (vs : List Value) (t : Tail) (n : ℕ) (judged : n ≡ refusal f vs) where
+  pub front-stops : 0 < n → n ≡ bodyRefusal (many f g) vs t
+  unfolding bodyRefusal
+  front-stops h = rw (← judged) (or-first n (itemsRefusal g t) h)
+
+  pub front-passes : (r : ℕ) → n ≤ 0 → r ≡ itemsRefusal g t → r ≡ bodyRefusal (many f g) vs t
+  unfolding bodyRefusal
+  front-passes r h e = rw (← judged) (e ∙ or-next n (itemsRefusal g t) h)
 
 -- w is the writer, k the record's kind, n the number for the header's fields
 module _ (most w : ℕ) (st : St) (g : Given) (k : Kind) (n : ℕ) (listed : 0 < w) (typed : large 2 (g .type) ≡ 0) (chosen : kind (g .type) (g .sub) ≡ k)

@@ -1,7 +1,31 @@
--- `write_peers::write_peer_table` meets its contract. Assumes nothing.
+-- `write_peers::write_peer_table` meets its contract: what it is given, its size, and what is known once it may write. Assumes nothing.
+use mathlib.Core.Path.{_≡_, refl, ap, _∙_}
+use Prim.Native.Nat.{ℕ, _+_, _≤_}
+use denote.Ref.{now}
+use lib.ListN.{length}
+use Rattle.form.specs.Put.{Given, message}
+use Rattle.form.specs.Shape.{noTable}
+use Rattle.writing.specs.Only.{onlySub, peerTables}
+use Rattle.writing.specs.Givens.{peerTableGiven}
+use Rattle.writing.specs.Verdict.{capped}
+use Rattle.writing.proofs.Answers.{refuses}
+use Rattle.writing.proofs.Ready.{Ready, summed, ready, finished}
+use Rattle.write_peers.proofs.Laws.{table-length, table-laid}
 use borrow.Author.Needs.{needs}
 use Rattle.write_peers.proofs.write_peer_table.Statement.{statement}
 use Rattle.write_peers.proofs.write_peer_table.Tie as tie
+
+abbrev given : tie.After-verdict → Given
+given c = let a = c .before .before .before .before .before .before .before .args in peerTableGiven (a .timestamp) (a .collector) (now (a .name)) (a .count) (now (a .peers))
+
+long : (c : tie.After-verdict) → 8 + length (now (c .before .before .before .before .before .before .before .args .name)) + length (now (c .before .before .before .before .before .before .before .args .peers)) ≡ length (message (given c))
+long c = let a = c .before .before .before .before .before .before .before .args in table-length (a .timestamp) (a .collector) (now (a .name)) (a .count) (now (a .peers))
+
+sized : (c : tie.After-verdict) → c .before .add2 .result ≡ capped (length (message (given c)))
+sized c = summed _ _ _ _ (c .before .before .add .ensures) (c .before .add2 .ensures) ∙ ap capped (long c)
+
+fine : (c : tie.After-enum-told) → Ready (onlySub peerTables 4096) noTable (given (c .before .before)) (now (c .before .before .before .before .before .before .before .before .before .args .out)) (c .before .before .before .add2 .result) (c .before .before .verdict .result)
+fine c = ready (onlySub peerTables 4096) noTable (given (c .before .before)) (now (c .before .before .before .before .before .before .before .before .before .args .out)) _ _ _ _ _ (c .before .before .before .before .before .table-refusal .ensures) (sized (c .before .before)) refl (c .before .before .verdict .ensures) (c .enum-told .given .1)
 
 table-refusal-requires : tie.Need-table-refusal-requires
 table-refusal-requires c κs = search needs
@@ -22,37 +46,42 @@ enum-told-2 : tie.Need-enum-told-2
 enum-told-2 c = search needs
 
 returns : tie.Need-returns
-returns c = ?
-
-put-head-requires : tie.Need-put-head-requires
-put-head-requires c κs = ?
-
-put-number-requires : tie.Need-put-number-requires
-put-number-requires c κs = ?
-
-put-number-requires-2 : tie.Need-put-number-requires-2
-put-number-requires-2 c κs = ?
-
-put-bytes-requires : tie.Need-put-bytes-requires
-put-bytes-requires c κs = ?
+returns c = refuses (onlySub peerTables 4096) noTable (given (c .before .before)) (now (c .before .before .before .before .before .before .before .before .before .args .out)) _ _ _ _ (c .before .before .before .before .before .table-refusal .ensures) (sized (c .before .before)) refl (c .before .before .verdict .ensures) _ (c .enum-told2 .given .1)
 
 add-a : tie.Need-add-a
-add-a c = ?
+add-a c = let s = fine c .space in let l = long (c .before .before) in search needs
+
+add-b : tie.Need-add-b
+add-b c = let s = fine c .space in let l = long (c .before .before) in search needs
+
+put-head-requires : tie.Need-put-head-requires
+put-head-requires c κs = let s = fine (c .before) .space in search needs
+
+put-number-requires : tie.Need-put-number-requires
+put-number-requires c κs = let s = fine (c .before .before .before .before .before) .space in let l = long (c .before .before .before .before .before .before .before) in search needs
+
+put-number-requires-2 : tie.Need-put-number-requires-2
+put-number-requires-2 c κs = let s = fine (c .before .before .before .before .before .before .before .before .before) .space in let l = long (c .before .before .before .before .before .before .before .before .before .before .before) in search needs
+
+put-bytes-requires : tie.Need-put-bytes-requires
+put-bytes-requires c κs = let s = fine (c .before .before .before .before .before .before .before .before .before .before .before .before .before) .space in let l = long (c .before .before .before .before .before .before .before .before .before .before .before .before .before .before .before) in search needs
 
 put-number-requires-3 : tie.Need-put-number-requires-3
-put-number-requires-3 c κs = ?
-
-add-put-bytes : tie.Need-add-put-bytes
-add-put-bytes c = ?
+put-number-requires-3 c κs = let s = fine (c .before .before .before .before .before .before .before .before .before .before .before .before .before .before .before .before .before) .space in let l = long (c .before .before .before .before .before .before .before .before .before .before .before .before .before .before .before .before .before .before .before) in search needs
 
 put-bytes-requires-2 : tie.Need-put-bytes-requires-2
-put-bytes-requires-2 c κs = ?
+put-bytes-requires-2 c κs = let s = fine (c .before .before .before .before .before .before .before .before .before .before .before .before .before .before .before .before .before .before .before .before .before) .space in let l = long (c .before .before .before .before .before .before .before .before .before .before .before .before .before .before .before .before .before .before .before .before .before .before .before) in search needs
 
 same-length : tie.Need-same-length
 same-length c = search needs
 
 returns-2 : tie.Need-returns-2
-returns-2 c = ?
+returns-2 c =
+    let a = c .before .before .before .before .before .before .before .before .before .before .before .before .before .before .before .before .before .before .before .before .before .before .before .before .before .before .before .before .before .before .before .before .before .args in
+    let f = fine (c .before .before .before .before .before .before .before .before .before .before .before .before .before .before .before .before .before .before .before .before .before .before .before .before) in
+    finished (onlySub peerTables 4096) noTable (given (c .before .before .before .before .before .before .before .before .before .before .before .before .before .before .before .before .before .before .before .before .before .before .before .before .before .before)) (now (a .out)) (c .before .before .before .before .before .before .before .before .before .before .before .before .before .before .before .before .before .before .before .before .before .before .before .before .before .before .before .add2 .result) _ _ _ f (c .before .before .before .before .before .before .before .before .before .before .before .before .before .before .before .before .before .before .before .before .before .before .put-head .ensures)
+    (λ q. table-laid (a .timestamp) (a .collector) (now (a .name)) (a .count) (now (a .peers)) _ _ _ _ _ _
+    (c .before .before .before .before .before .before .before .before .before .before .before .before .before .before .before .before .before .before .put-number .ensures) (c .before .before .before .before .before .before .before .before .before .before .before .before .before .before .put-number2 .ensures) (c .before .before .before .before .before .before .before .before .before .before .put-bytes .ensures) (c .before .before .before .before .before .before .put-number3 .ensures) (c .before .before .put-bytes2 .ensures) (rw q (f .space)))
 
 pub write-peer-table-spec : {M : Type 1} → statement M
 write-peer-table-spec =
@@ -65,13 +94,13 @@ write-peer-table-spec =
     enum-told
     enum-told-2
     returns
+    add-a
+    add-b
     put-head-requires
     put-number-requires
     put-number-requires-2
     put-bytes-requires
-    add-a
     put-number-requires-3
-    add-put-bytes
     put-bytes-requires-2
     same-length
     returns-2)
