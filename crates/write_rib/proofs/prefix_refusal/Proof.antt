@@ -1,4 +1,6 @@
 -- `write_rib::prefix_refusal` meets its contract. Assumes nothing.
+use Rattle.page.specs.Rib.{prefix}
+use Rattle.flow.proofs.PutRules.{put-flow}
 use borrow.Author.Needs.{needs}
 use Rattle.write_rib.proofs.prefix_refusal.Statement.{statement}
 use Rattle.write_rib.proofs.prefix_refusal.Tie as tie
@@ -7,22 +9,27 @@ large-requires : tie.Need-large-requires
 large-requires c κs = search needs
 
 returns : tie.Need-returns
-returns c = ?
+unfolding prefix
+returns c = search put-flow depth 12
 
 returns-2 : tie.Need-returns-2
-returns-2 c = ?
+unfolding prefix
+returns-2 c = search put-flow depth 12
 
 add-size : tie.Need-add-size
 add-size c = search needs
 
 returns-3 : tie.Need-returns-3
-returns-3 c = ?
+unfolding prefix
+returns-3 c = search put-flow depth 12
 
 returns-4 : tie.Need-returns-4
-returns-4 c = ?
+unfolding prefix
+returns-4 c = search put-flow depth 12
 
 returns-5 : tie.Need-returns-5
-returns-5 c = ?
+unfolding prefix
+returns-5 c = search put-flow depth 12
 
 pub prefix-refusal-spec : {M : Type 1} → statement M
 prefix-refusal-spec =
