@@ -2,18 +2,18 @@
 use mathlib.Core.Path.{_≡_, refl, sym, ap, _∙_}
 use mathlib.Core.Bool.{Bool, true, false}
 use mathlib.Core.List.{List, [], _∷_}
-use Prim.Native.Nat.{ℕ, _+_, _-_, _^_, _≤_}
+use Prim.Native.Nat.{ℕ, _+_, _-_, _^_}
 use native.Mathlib.Omega.{arith}
 use lib.Dec.{leb}
-use lib.ListN.{length, drop}
+use lib.ListN.{length}
 use types.Run.{OneOf, miss}
 use denote.Enum.Declared.{tagOf}
-use Rattle.form.specs.Fmt.{Out, bad, good, bind, Fmt, read, join, overAt}
-use Rattle.form.specs.Body.{Body, plain, just, ended, readBody, readN}
+use Rattle.form.specs.Fmt.{Out, bad, good, bind, Fmt, join, overAt}
+use Rattle.form.specs.Body.{plain, ended, readBody, readN}
 use Rattle.form.specs.Pass.{whole, times}
 use Rattle.form.specs.Put.{faultOf, items, itemsRefusal}
 use Rattle.flow.proofs.PutRules.{is-large, not-large}
-use Rattle.form.proofs.Then.{flat, flatly, read-times}
+use Rattle.form.proofs.Then.{flatly, read-times}
 use Rattle.form.proofs.Whole.{outcomeBody, whole-body}
 use Rattle.shown.specs.declared.Shown.{Shown}
 use Rattle.shown.specs.declared.Shown.the-variants.{Nothing, Refused, Unread, TableDump, PeerTable, Rib, RibGeneric, Change, Message}

@@ -2,5 +2,4 @@ pub mod Sums
 pub mod Answers
 pub mod Heads
 pub mod Turns
-pub mod Ready
 pub mod Items

@@ -1,6 +1,6 @@
 -- A writer's fields in their turns: the header's, then whether the Subtype is the writer's own, then the message's. Assumes nothing.
 use mathlib.Core.Path.{_≡_, refl, sym, ap, _∙_}
-use mathlib.Core.Bool.{Bool, true, false}
+use mathlib.Core.Bool.{true, false}
 use mathlib.Core.List.{List}
 use Prim.Native.Nat.{ℕ, zero, suc, _≤_, _<_}
 use native.Mathlib.Omega.{arith}
@@ -8,7 +8,7 @@ use lib.Dec.{eqb}
 use Rattle.form.specs.Fmt.{Fmt}
 use Rattle.form.specs.Body.{many}
 use Rattle.form.specs.Put.{Value, Tail, Given, orElse, large, refusal, itemsRefusal, bodyRefusal, fieldsRefusal}
-use Rattle.form.specs.Shape.{Layout, St, plan}
+use Rattle.form.specs.Shape.{St, plan}
 use Rattle.form.specs.Words.{choose}
 use Rattle.page.specs.Layout.{kind, layoutOf, unlisted}
 use Rattle.page.specs.declared.Kind.{Kind}

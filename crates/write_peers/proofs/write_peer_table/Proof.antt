@@ -1,6 +1,6 @@
 -- `write_peers::write_peer_table` meets its contract: what it is given, its size, and what is known once it may write. Assumes nothing.
 use mathlib.Core.Path.{_≡_, refl, ap, _∙_}
-use Prim.Native.Nat.{ℕ, _+_, _≤_}
+use Prim.Native.Nat.{_+_, _≤_}
 use denote.Ref.{now}
 use lib.ListN.{length}
 use Rattle.form.specs.Put.{Given, message}
@@ -8,8 +8,8 @@ use Rattle.form.specs.Shape.{noTable}
 use Rattle.writing.specs.Only.{onlySub, peerTables}
 use Rattle.writing.specs.Givens.{peerTableGiven}
 use Rattle.writing.specs.Verdict.{capped}
-use Rattle.writing.proofs.Answers.{refuses}
-use Rattle.writing.proofs.Ready.{Ready, summed, ready, finished}
+use Rattle.writing.proofs.Sums.{summed}
+use Rattle.writing.proofs.Answers.{refuses, Goes, goes, done}
 use Rattle.write_peers.proofs.Laws.{table-length, table-laid}
 use borrow.Author.Needs.{needs}
 use Rattle.write_peers.proofs.write_peer_table.Statement.{statement}
@@ -24,8 +24,8 @@ long c = let a = c .before .before .before .before .before .before .before .args
 sized : (c : tie.After-verdict) → c .before .add2 .result ≡ capped (length (message (given c)))
 sized c = summed _ _ _ _ (c .before .before .add .ensures) (c .before .add2 .ensures) ∙ ap capped (long c)
 
-fine : (c : tie.After-enum-told) → Ready (onlySub peerTables 4096) noTable (given (c .before .before)) (now (c .before .before .before .before .before .before .before .before .before .args .out)) (c .before .before .before .add2 .result) (c .before .before .verdict .result)
-fine c = ready (onlySub peerTables 4096) noTable (given (c .before .before)) (now (c .before .before .before .before .before .before .before .before .before .args .out)) _ _ _ _ _ (c .before .before .before .before .before .table-refusal .ensures) (sized (c .before .before)) refl (c .before .before .verdict .ensures) (c .enum-told .given .1)
+fine : (c : tie.After-enum-told) → Goes (onlySub peerTables 4096) noTable (given (c .before .before)) (now (c .before .before .before .before .before .before .before .before .before .args .out)) (c .before .before .before .add2 .result) (c .before .before .verdict .result)
+fine c = goes (onlySub peerTables 4096) noTable (given (c .before .before)) (now (c .before .before .before .before .before .before .before .before .before .args .out)) _ _ _ _ _ (c .before .before .before .before .before .table-refusal .ensures) (sized (c .before .before)) refl (c .before .before .verdict .ensures) (c .enum-told .given .1)
 
 table-refusal-requires : tie.Need-table-refusal-requires
 table-refusal-requires c κs = search needs
@@ -79,9 +79,11 @@ returns-2 : tie.Need-returns-2
 returns-2 c =
     let a = c .before .before .before .before .before .before .before .before .before .before .before .before .before .before .before .before .before .before .before .before .before .before .before .before .before .before .before .before .before .before .before .before .before .args in
     let f = fine (c .before .before .before .before .before .before .before .before .before .before .before .before .before .before .before .before .before .before .before .before .before .before .before .before) in
-    finished (onlySub peerTables 4096) noTable (given (c .before .before .before .before .before .before .before .before .before .before .before .before .before .before .before .before .before .before .before .before .before .before .before .before .before .before)) (now (a .out)) (c .before .before .before .before .before .before .before .before .before .before .before .before .before .before .before .before .before .before .before .before .before .before .before .before .before .before .before .add2 .result) _ _ _ f (c .before .before .before .before .before .before .before .before .before .before .before .before .before .before .before .before .before .before .before .before .before .before .put-head .ensures)
-    (λ q. table-laid (a .timestamp) (a .collector) (now (a .name)) (a .count) (now (a .peers)) _ _ _ _ _ _
-    (c .before .before .before .before .before .before .before .before .before .before .before .before .before .before .before .before .before .before .put-number .ensures) (c .before .before .before .before .before .before .before .before .before .before .before .before .before .before .put-number2 .ensures) (c .before .before .before .before .before .before .before .before .before .before .put-bytes .ensures) (c .before .before .before .before .before .before .put-number3 .ensures) (c .before .before .put-bytes2 .ensures) (rw q (f .space)))
+    let s = f .space in
+    let h : 12 + length (message (given (c .before .before .before .before .before .before .before .before .before .before .before .before .before .before .before .before .before .before .before .before .before .before .before .before .before .before))) ≤ length (c .before .before .before .before .before .before .before .before .before .before .before .before .before .before .before .before .before .before .before .before .before .before .put-head .last .0) = search needs in
+    done (onlySub peerTables 4096) noTable (given (c .before .before .before .before .before .before .before .before .before .before .before .before .before .before .before .before .before .before .before .before .before .before .before .before .before .before)) (now (a .out)) _ _ (c .before .before .before .before .before .before .before .before .before .before .before .before .before .before .before .before .before .before .before .before .before .before .before .before .before .before .before .add2 .result) _ f (c .before .before .before .before .before .before .before .before .before .before .before .before .before .before .before .before .before .before .before .before .before .before .put-head .ensures)
+    (table-laid (a .timestamp) (a .collector) (now (a .name)) (a .count) (now (a .peers)) _ _ _ _ _ _
+    (c .before .before .before .before .before .before .before .before .before .before .before .before .before .before .before .before .before .before .put-number .ensures) (c .before .before .before .before .before .before .before .before .before .before .before .before .before .before .put-number2 .ensures) (c .before .before .before .before .before .before .before .before .before .before .put-bytes .ensures) (c .before .before .before .before .before .before .put-number3 .ensures) (c .before .before .put-bytes2 .ensures) h)
 
 pub write-peer-table-spec : {M : Type 1} → statement M
 write-peer-table-spec =

@@ -1,5 +1,5 @@
 -- `write_rib::entries_refusal` meets its contract. Assumes nothing.
-use mathlib.Core.Path.{_≡_, sym, ap, _∙_}
+use mathlib.Core.Path.{sym, ap, _∙_}
 use denote.Ref.{now}
 use Rattle.page.specs.Rib.{entry}
 use Rattle.writing.proofs.Items.{refusedWith, not-refused, count-large, items-judged}

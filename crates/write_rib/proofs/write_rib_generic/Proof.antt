@@ -1,6 +1,6 @@
 -- `write_rib::write_rib_generic` meets its contract: what it is given, its size, and what is known once it may write. Assumes nothing.
 use mathlib.Core.Path.{_≡_, refl, ap, _∙_}
-use Prim.Native.Nat.{ℕ, _+_, _≤_}
+use Prim.Native.Nat.{_+_, _≤_}
 use denote.Ref.{now}
 use lib.ListN.{length}
 use Rattle.form.specs.Put.{Given, message}
@@ -8,8 +8,8 @@ use Rattle.shown.specs.Table.{tableOf}
 use Rattle.writing.specs.Only.{onlySub, genericRibs}
 use Rattle.writing.specs.Givens.{ribGenericGiven}
 use Rattle.writing.specs.Verdict.{capped}
-use Rattle.writing.proofs.Answers.{refuses}
-use Rattle.writing.proofs.Ready.{Ready, summed, ready, finished}
+use Rattle.writing.proofs.Sums.{summed}
+use Rattle.writing.proofs.Answers.{refuses, Goes, goes, done}
 use Rattle.write_rib.proofs.Laws.{generic-length, generic-laid}
 use borrow.Author.Needs.{needs}
 use Rattle.write_rib.proofs.write_rib_generic.Statement.{statement}
@@ -24,10 +24,10 @@ long c = let a = c .before .before .before .before .before .before .before .args
 sized : (c : tie.After-verdict) → c .before .add2 .result ≡ capped (length (message (given c)))
 sized c = summed _ _ _ _ (c .before .before .add .ensures) (c .before .add2 .ensures) ∙ ap capped (long c)
 
-fine : (c : tie.After-enum-told) → Ready (onlySub genericRibs 4096) (tableOf (c .before .before .before .before .before .before .before .before .before .args .told)) (given (c .before .before)) (now (c .before .before .before .before .before .before .before .before .before .args .out)) (c .before .before .before .add2 .result) (c .before .before .verdict .result)
+fine : (c : tie.After-enum-told) → Goes (onlySub genericRibs 4096) (tableOf (c .before .before .before .before .before .before .before .before .before .args .told)) (given (c .before .before)) (now (c .before .before .before .before .before .before .before .before .before .args .out)) (c .before .before .before .add2 .result) (c .before .before .verdict .result)
 fine c =
     let a = c .before .before .before .before .before .before .before .before .before .args in
-    ready (onlySub genericRibs 4096) (tableOf (a .told)) (given (c .before .before)) (now (a .out)) _ _ _ _ _ (c .before .before .before .before .before .generic-rib-refusal .ensures) (sized (c .before .before)) refl (c .before .before .verdict .ensures) (c .enum-told .given .1)
+    goes (onlySub genericRibs 4096) (tableOf (a .told)) (given (c .before .before)) (now (a .out)) _ _ _ _ _ (c .before .before .before .before .before .generic-rib-refusal .ensures) (sized (c .before .before)) refl (c .before .before .verdict .ensures) (c .enum-told .given .1)
 
 generic-rib-refusal-requires : tie.Need-generic-rib-refusal-requires
 generic-rib-refusal-requires c κs = search needs
@@ -74,8 +74,10 @@ returns-2 : tie.Need-returns-2
 returns-2 c =
     let a = c .before .before .before .before .before .before .before .before .before .before .before .before .before .before .before .before .before .before .before .before .before .before .before .before .before .before .before .before .before .args in
     let f = fine (c .before .before .before .before .before .before .before .before .before .before .before .before .before .before .before .before .before .before .before .before) in
-    finished (onlySub genericRibs 4096) (tableOf (a .told)) (given (c .before .before .before .before .before .before .before .before .before .before .before .before .before .before .before .before .before .before .before .before .before .before)) (now (a .out)) (c .before .before .before .before .before .before .before .before .before .before .before .before .before .before .before .before .before .before .before .before .before .before .before .add2 .result) _ _ _ f (c .before .before .before .before .before .before .before .before .before .before .before .before .before .before .before .before .before .before .put-head .ensures)
-    (λ q. generic-laid (a .timestamp) (a .sequence) (a .family) (a .safi) (a .bits) (now (a .prefix)) (a .count) (now (a .entries)) _ _ _ _ _ (c .before .before .before .before .before .before .before .before .before .before .before .before .before .before .put-number .ensures) (c .before .before .before .before .before .before .before .before .before .before .put-number2 .ensures) (c .before .before .before .before .before .before .put-number3 .ensures) (c .before .before .put-entries .ensures) (rw q (f .space)))
+    let s = f .space in
+    let h : 12 + length (message (given (c .before .before .before .before .before .before .before .before .before .before .before .before .before .before .before .before .before .before .before .before .before .before))) ≤ length (c .before .before .before .before .before .before .before .before .before .before .before .before .before .before .before .before .before .before .put-head .last .0) = search needs in
+    done (onlySub genericRibs 4096) (tableOf (a .told)) (given (c .before .before .before .before .before .before .before .before .before .before .before .before .before .before .before .before .before .before .before .before .before .before)) (now (a .out)) _ _ (c .before .before .before .before .before .before .before .before .before .before .before .before .before .before .before .before .before .before .before .before .before .before .before .add2 .result) _ f (c .before .before .before .before .before .before .before .before .before .before .before .before .before .before .before .before .before .before .put-head .ensures)
+    (generic-laid (a .timestamp) (a .sequence) (a .family) (a .safi) (a .bits) (now (a .prefix)) (a .count) (now (a .entries)) _ _ _ _ _ (c .before .before .before .before .before .before .before .before .before .before .before .before .before .before .put-number .ensures) (c .before .before .before .before .before .before .before .before .before .before .put-number2 .ensures) (c .before .before .before .before .before .before .put-number3 .ensures) (c .before .before .put-entries .ensures) h)
 
 pub write-rib-generic-spec : {M : Type 1} → statement M
 write-rib-generic-spec =

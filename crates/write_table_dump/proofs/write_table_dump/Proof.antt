@@ -1,8 +1,6 @@
 -- `write_table_dump::write_table_dump` meets its contract: what it is given, its size, and what is known once it may write. Assumes nothing.
-use mathlib.Core.Path.{_≡_, refl, sym, ap, _∙_}
-use mathlib.Core.List.{List}
-use Prim.Native.Nat.{ℕ, _+_, _≤_}
-use native.Mathlib.Omega.{arith}
+use mathlib.Core.Path.{_≡_, refl, ap, _∙_}
+use Prim.Native.Nat.{_+_, _≤_}
 use denote.Ref.{now}
 use lib.ListN.{length}
 use Rattle.form.specs.Put.{Given, message}
@@ -10,8 +8,8 @@ use Rattle.form.specs.Shape.{noTable}
 use Rattle.writing.specs.Only.{onlySub, tableDumps}
 use Rattle.writing.specs.Givens.{tableDumpGiven}
 use Rattle.writing.specs.Verdict.{capped}
-use Rattle.writing.proofs.Answers.{refuses}
-use Rattle.writing.proofs.Ready.{Ready, summed, ready, finished}
+use Rattle.writing.proofs.Sums.{summed}
+use Rattle.writing.proofs.Answers.{refuses, Goes, goes, done}
 use Rattle.write_table_dump.proofs.Laws.{dump-length, dump-laid}
 use borrow.Author.Needs.{needs}
 use Rattle.write_table_dump.proofs.write_table_dump.Statement.{statement}
@@ -30,9 +28,9 @@ long c =
 sized : (c : tie.After-verdict) → c .before .add3 .result ≡ capped (length (message (given c)))
 sized c = summed _ _ _ _ (summed _ _ _ _ (c .before .before .before .add .ensures) (c .before .before .add2 .ensures)) (c .before .add3 .ensures) ∙ ap capped (long c)
 
-fine : (c : tie.After-enum-told) → Ready (onlySub tableDumps 4096) noTable (given (c .before .before)) (now (c .before .before .before .before .before .before .before .before .before .before .before .args .out)) (c .before .before .before .add3 .result) (c .before .before .verdict .result)
+fine : (c : tie.After-enum-told) → Goes (onlySub tableDumps 4096) noTable (given (c .before .before)) (now (c .before .before .before .before .before .before .before .before .before .before .before .args .out)) (c .before .before .before .add3 .result) (c .before .before .verdict .result)
 fine c =
-    ready (onlySub tableDumps 4096) noTable (given (c .before .before)) (now (c .before .before .before .before .before .before .before .before .before .before .before .args .out)) _ _ _ _ _ (c .before .before .before .before .before .before .dump-refusal .ensures) (sized (c .before .before)) refl (c .before .before .verdict .ensures) (c .enum-told .given .1)
+    goes (onlySub tableDumps 4096) noTable (given (c .before .before)) (now (c .before .before .before .before .before .before .before .before .before .before .before .args .out)) _ _ _ _ _ (c .before .before .before .before .before .before .dump-refusal .ensures) (sized (c .before .before)) refl (c .before .before .verdict .ensures) (c .enum-told .given .1)
 
 dump-refusal-requires : tie.Need-dump-refusal-requires
 dump-refusal-requires c κs = search needs
@@ -75,9 +73,11 @@ returns-2 : tie.Need-returns-2
 returns-2 c =
     let a = c .before .before .before .before .before .before .before .before .before .before .before .before .before .before .before .before .before .before .before .before .before .before .before .args in
     let f = fine (c .before .before .before .before .before .before .before .before .before .before .before .before) in
-    finished (onlySub tableDumps 4096) noTable (given (c .before .before .before .before .before .before .before .before .before .before .before .before .before .before)) (now (a .out)) (c .before .before .before .before .before .before .before .before .before .before .before .before .before .before .before .add3 .result) _ _ _ f (c .before .before .before .before .before .before .before .before .before .before .put-head .ensures)
-    (λ q. dump-laid (a .timestamp) (a .subtype) (a .view) (a .sequence) (now (a .prefix)) (a .bits) (a .status) (a .originated) (now (a .address)) (a .peer) (now (a .attributes)) _ _ _ _
-    (c .before .before .before .before .before .before .put-front .ensures .0) (c .before .before .before .before .before .before .put-front .ensures .1) (c .before .before .put-rest .ensures) (rw q (f .space)))
+    let s = f .space in
+    let h : 12 + length (message (given (c .before .before .before .before .before .before .before .before .before .before .before .before .before .before))) ≤ length (c .before .before .before .before .before .before .before .before .before .before .put-head .last .0) = search needs in
+    done (onlySub tableDumps 4096) noTable (given (c .before .before .before .before .before .before .before .before .before .before .before .before .before .before)) (now (a .out)) _ _ (c .before .before .before .before .before .before .before .before .before .before .before .before .before .before .before .add3 .result) _ f (c .before .before .before .before .before .before .before .before .before .before .put-head .ensures)
+    (dump-laid (a .timestamp) (a .subtype) (a .view) (a .sequence) (now (a .prefix)) (a .bits) (a .status) (a .originated) (now (a .address)) (a .peer) (now (a .attributes)) _ _ _ _
+    (c .before .before .before .before .before .before .put-front .ensures .0) (c .before .before .before .before .before .before .put-front .ensures .1) (c .before .before .put-rest .ensures) h)
 
 pub write-table-dump-spec : {M : Type 1} → statement M
 write-table-dump-spec =
