@@ -74,12 +74,13 @@ pub fn write_peer_table(
     let Written::Octets(_) = v else {
         return v;
     };
+    let a = 18 + name.len();
+    let b = a + 2;
     put_head(out, timestamp, 13, 1, size as u64);
     put_number(out, 12, 4, collector);
     put_number(out, 16, 2, name.len() as u64);
     put_bytes(name, out, 18);
-    let a = 18 + name.len();
     put_number(out, a, 2, count);
-    put_bytes(peers, out, a + 2);
+    put_bytes(peers, out, b);
     v
 }

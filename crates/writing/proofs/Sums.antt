@@ -43,3 +43,6 @@ capped-more a b = go (ltb a (2 ^ 64)) refl
             turn : (t : Bool) → ltb (18446744073709551615 + b) (2 ^ 64) ≡ t → cond t (18446744073709551615 + b) 18446744073709551615 ≡ 18446744073709551615
             turn true e = let q = ltb-true (18446744073709551615 + b) (2 ^ 64) e in omega arith
             turn false e = refl
+
+pub summed : (a b r s : ℕ) → r ≡ capped a → s ≡ capped (r + b) → s ≡ capped (a + b)
+summed a b r s e d = d ∙ rw e (capped-more a b)

@@ -1,0 +1,61 @@
+-- Items that a writer is given laid out, judged by the reader. Assumes nothing.
+use mathlib.Core.Path.{_≡_, refl, sym, ap, _∙_}
+use mathlib.Core.Bool.{Bool, true, false}
+use mathlib.Core.List.{List, [], _∷_}
+use Prim.Native.Nat.{ℕ, _+_, _-_, _^_}
+use native.Mathlib.Omega.{arith}
+use lib.Dec.{leb}
+use lib.ListN.{length}
+use types.Run.{OneOf, miss}
+use denote.Enum.Declared.{tagOf}
+use Rattle.form.specs.Fmt.{Out, bad, good, bind, Fmt, join, overAt}
+use Rattle.form.specs.Body.{plain, ended, readBody, readN}
+use Rattle.form.specs.Pass.{whole, times}
+use Rattle.form.specs.Put.{faultOf, items, itemsRefusal}
+use Rattle.flow.proofs.PutRules.{is-large, not-large}
+use Rattle.form.proofs.Then.{flatly, read-times}
+use Rattle.form.proofs.Whole.{outcomeBody, whole-body}
+use Rattle.shown.specs.declared.Shown.{Shown}
+use Rattle.shown.specs.declared.Shown.the-variants.{Nothing, Refused, Unread, TableDump, PeerTable, Rib, RibGeneric, Change, Message}
+use Rattle.shown.proofs.Shown.{the-type}
+
+-- the number that a reader shows, or 0
+abbrev pub refusedWith : Shown → ℕ
+refusedWith Nothing = 0
+refusedWith (Refused n p) = n
+refusedWith (Unread h c) = 0
+refusedWith (TableDump h r) = 0
+refusedWith (PeerTable h p) = 0
+refusedWith (Rib h r) = 0
+refusedWith (RibGeneric h f s r) = 0
+refusedWith (Change h s o n) = 0
+refusedWith (Message h s b t) = 0
+
+pub not-refused : (s : Shown) → OneOf (0 ∷ 2 ∷ 3 ∷ 4 ∷ 5 ∷ 6 ∷ 7 ∷ 8 ∷ []) (tagOf the-type s) → refusedWith s ≡ 0
+not-refused Nothing h = refl
+not-refused (Refused n p) h = absurd (miss (0 ∷ 2 ∷ 3 ∷ 4 ∷ 5 ∷ 6 ∷ 7 ∷ 8 ∷ []) 1 tt h)
+not-refused (Unread x c) h = refl
+not-refused (TableDump x r) h = refl
+not-refused (PeerTable x p) h = refl
+not-refused (Rib x r) h = refl
+not-refused (RibGeneric x f s r) h = refl
+not-refused (Change x s o n) h = refl
+not-refused (Message x s b t) h = refl
+
+-- reading n items and nothing behind them gives the items' fault
+items-fault : (g : Fmt) (n : ℕ) (raw : List ℕ) → refusedWith (whole (λ fs. Nothing) Refused (times n g) raw 0) ≡ faultOf (readN g n 0 raw)
+unfolding readBody outcomeBody
+items-fault g n raw = ap refusedWith (whole-body (λ fs. Nothing) Refused (times n g) raw 0 (omega arith)) ∙ rw (read-times n g 0 raw) (go (readN g n 0 raw))
+  where
+    go : (o : Out (List (List (List ℕ)))) → refusedWith (outcomeBody (λ fs. Nothing) Refused (times n g) 0 (bind (flatly o) (λ cs r. ended (0 + length (join cs) - overAt (times n g) cs) (plain cs) r))) ≡ faultOf o
+    go (bad m p) = refl
+    go (good its []) = refl
+    go (good its (x ∷ r)) = refl
+
+-- a count that does not fit, and one that does, where the reader shows r; t is what a test by `large` says
+pub count-large : (g : Fmt) (n : ℕ) (raw : List ℕ) (t : Bool) → t ≡ leb (256 ^ 2) n → t ≡ true → 6 ≡ itemsRefusal g (items n raw)
+count-large g n raw t p q = sym (rw (is-large 2 n t p q))
+
+pub items-judged : (g : Fmt) (n : ℕ) (raw : List ℕ) (t : Bool) (r : Shown) → t ≡ leb (256 ^ 2) n → t ≡ false → r ≡ whole (λ fs. Nothing) Refused (times n g) raw 0
+    → refusedWith r ≡ itemsRefusal g (items n raw)
+items-judged g n raw t r p q e = rw (not-large 2 n t p q) (ap refusedWith e ∙ items-fault g n raw)
