@@ -104,3 +104,43 @@ laid g out l k size e d z h =
     let q : k ≡ over out 0 (p ++ message g) = more out p (message g) l k 0 12 e d (omega arith) (omega arith) in
     let x : p ++ message g ≡ octets g = rw z (simp append-assoc) in
     q ∙ rw x (over-first (octets g) out)
+
+-- ---- the same for a record that is written, in one
+
+abbrev Exact : (size m : ℕ) → Written → Type 0
+Exact size m (Refused k) = Unit
+Exact size m (Octets k) = size ≡ m
+
+exactly : (n m room : ℕ) → Exact (capped m) m (verdictOf n (capped m) room)
+unfolding verdictOf choose
+exactly (suc n) m room = tt
+exactly zero m room = go (ltb 4294967295 (capped m)) (ltb room (12 + capped m)) refl
+  where
+    go : (t u : Bool) → ltb 4294967295 (capped m) ≡ t → Exact (capped m) m (choose t (Refused 6) (choose u (Refused 15) (Octets (12 + capped m))))
+    go true u p = tt
+    go false true p = tt
+    go false false p =
+        let b = ltb-false 4294967295 (capped m) p in
+        let s : m ≡ capped m = cap m .same (omega arith) in
+        sym s
+
+-- v says that the record goes into out, with size as its Length
+pub record Goes (layout : ℕ → ℕ → Layout) (st : St) (g : Given) (out : List ℕ) (size : ℕ) (v : Written) : Type 0 where
+  pub answer : v ≡ answers layout st g out
+  pub left : octets g ++ drop (length (octets g)) out ≡ leaves layout st g out
+  pub space : 12 + length (message g) ≤ length out
+  pub exact : size ≡ length (message g)
+
+pub goes : (layout : ℕ → ℕ → Layout) (st : St) (g : Given) (out : List ℕ) (n size room k : ℕ) (v : Written)
+    → n ≡ fieldsRefusal layout st g → size ≡ capped (length (message g)) → room ≡ length out → v ≡ verdictOf n size room → v ≡ Octets k → Goes layout st g out size v
+goes layout st g out n size room k v refused sized lent judged e =
+    let f = writes layout st g out n size room v refused sized lent judged k e in
+    let j : v ≡ verdictOf n (capped (length (message g))) room = judged ∙ ap (λ (s : ℕ). verdictOf n s room) sized in
+    let y : Exact (capped (length (message g))) (length (message g)) v = rw j (exactly n (length (message g)) room) in
+    let x = rw e at y in
+    record { answer = f .answer; left = f .left; space = f .space; exact = sized ∙ x }
+
+-- the header is laid, and then the message behind it
+pub done : (layout : ℕ → ℕ → Layout) (st : St) (g : Given) (out l k : List ℕ) (size : ℕ) (v : Written) → Goes layout st g out size v
+    → l ≡ over out 0 (toBe 4 (g .stamp) ++ (toBe 2 (g .type) ++ (toBe 2 (g .sub) ++ toBe 4 size))) → k ≡ over l 12 (message g) → (v ≡ answers layout st g out) × (k ≡ leaves layout st g out)
+done layout st g out l k size v f e d = (f .answer, laid g out l k size e d (f .exact) (f .space) ∙ f .left)
