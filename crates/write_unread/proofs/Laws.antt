@@ -13,7 +13,6 @@ use Rattle.form.specs.Fmt.{end, join}
 use Rattle.form.specs.Put.{Given, carried, lay, message, large, refusal, bodyRefusal, typeRefusal, fieldsRefusal}
 use Rattle.form.specs.Shape.{Layout, St, noTable, plan}
 use Rattle.form.specs.Words.{choose}
-use Rattle.form.proofs.Octets.{length-toBe}
 use Rattle.page.specs.Layout.{kind, stamped, layoutOf}
 use Rattle.page.specs.declared.Kind.{Kind}
 use Rattle.page.specs.declared.Kind.the-variants.{Refused, Unread, TableDump, PeerTable, Rib, RibGeneric, Change, Message}
@@ -21,8 +20,8 @@ use Rattle.page.proofs.Kind as declared
 use Rattle.writing.specs.Times.{microOf, micros}
 use Rattle.writing.specs.Only.{writer, unreads}
 use Rattle.writing.specs.Givens.{unreadGiven}
+use Rattle.writing.proofs.Answers.{micros-long}
 use Rattle.writing.specs.declared.Time.{Time}
-use Rattle.writing.specs.declared.Time.the-variants.{Seconds, Micro}
 
 -- ---- the header's fields in turn
 
@@ -86,10 +85,6 @@ unfolding refusal
 nothing-left = refl
 
 -- ---- how long it is
-
-pub micros-long : (t : Time) → length (join (lay (micros t))) ≡ microOf t
-micros-long (Seconds s) = refl
-micros-long (Micro s u) = simp (length-append, length-toBe)
 
 pub message-long : (t : Time) (y s : ℕ) (r : List ℕ) → length (message (unreadGiven t y s r)) ≡ microOf t + length r
 message-long t y s r = rw (length-append (join (lay (micros t))) r, micros-long t)

@@ -5,15 +5,15 @@ use native.Mathlib.Omega.{arith}
 use denote.Ref.{now}
 use lib.ListN.{length}
 use Rattle.form.specs.Fmt.{join}
-use Rattle.form.specs.Put.{lay, message}
+use Rattle.form.specs.Put.{Given, lay, message}
 use Rattle.form.specs.Shape.{noTable}
 use Rattle.copy.proofs.Laws.{more}
 use Rattle.writing.specs.Times.{microOf, micros}
 use Rattle.writing.specs.Only.{unreads, onlyType}
 use Rattle.writing.specs.Givens.{unreadGiven}
 use Rattle.writing.specs.Verdict.{capped}
-use Rattle.writing.proofs.Answers.{refuses, Goes, goes, done}
-use Rattle.write_unread.proofs.Laws.{micros-long, message-long}
+use Rattle.writing.proofs.Answers.{refuses, Goes, goes, done, micros-long}
+use Rattle.write_unread.proofs.Laws.{message-long}
 use borrow.Author.Needs.{needs}
 use Rattle.write_unread.proofs.write_unread.Statement.{statement}
 use Rattle.write_unread.proofs.write_unread.Tie as tie
@@ -30,8 +30,11 @@ unread-refusal-requires c κs = search needs
 verdict-requires : tie.Need-verdict-requires
 verdict-requires c κs = search needs
 
+abbrev given : tie.Start → Given
+given s = unreadGiven (s .args .time) (s .args .ty) (s .args .subtype) (now (s .args .contents))
+
 -- the message's length, as it is added up
-sized : (c : tie.After-add) → c .add .result ≡ capped (length (message (unreadGiven (c .before .before .before .before .args .time) (c .before .before .before .before .args .ty) (c .before .before .before .before .args .subtype) (now (c .before .before .before .before .args .contents)))))
+sized : (c : tie.After-add) → c .add .result ≡ capped (length (message (given (c .before .before .before .before))))
 sized c =
     let a = c .before .before .before .before .args in
     c .add .ensures ∙ ap capped (ap (λ (m : ℕ). m + length (now (a .contents))) (c .before .micro .ensures) ∙ sym (message-long (a .time) (a .ty) (a .subtype) (now (a .contents))))
@@ -44,10 +47,10 @@ enum-told-2 c = search needs
 
 returns : tie.Need-returns
 returns c =
-    refuses _ _ (unreadGiven (c .before .before .before .before .before .before .before .before .args .time) (c .before .before .before .before .before .before .before .before .args .ty) (c .before .before .before .before .before .before .before .before .args .subtype) (now (c .before .before .before .before .before .before .before .before .args .contents))) (now (c .before .before .before .before .before .before .before .before .args .out)) _ _ _ _ (c .before .before .before .unread-refusal .ensures) (sized (c .before .before .before .before)) refl (c .before .before .verdict .ensures) _ (c .enum-told2 .given .1)
+    refuses _ _ (given (c .before .before .before .before .before .before .before .before)) (now (c .before .before .before .before .before .before .before .before .args .out)) _ _ _ _ (c .before .before .before .unread-refusal .ensures) (sized (c .before .before .before .before)) refl (c .before .before .verdict .ensures) _ (c .enum-told2 .given .1)
 
 -- the record goes into the buffer
-fine : (c : tie.After-enum-told) → Goes (onlyType (unreads (microOf (c .before .before .before .before .before .before .before .before .args .time))) 4096) noTable (unreadGiven (c .before .before .before .before .before .before .before .before .args .time) (c .before .before .before .before .before .before .before .before .args .ty) (c .before .before .before .before .before .before .before .before .args .subtype) (now (c .before .before .before .before .before .before .before .before .args .contents))) (now (c .before .before .before .before .before .before .before .before .args .out)) (c .before .before .before .before .add .result) (c .before .before .verdict .result)
+fine : (c : tie.After-enum-told) → Goes (onlyType (unreads (microOf (c .before .before .before .before .before .before .before .before .args .time))) 4096) noTable (given (c .before .before .before .before .before .before .before .before)) (now (c .before .before .before .before .before .before .before .before .args .out)) (c .before .before .before .before .add .result) (c .before .before .verdict .result)
 fine c = goes _ _ _ _ _ _ _ _ _ (c .before .before .before .unread-refusal .ensures) (sized (c .before .before .before .before)) refl (c .before .before .verdict .ensures) (c .enum-told .given .1)
 
 space : (c : tie.After-enum-told) → 12 + (microOf (c .before .before .before .before .before .before .before .before .args .time) + length (now (c .before .before .before .before .before .before .before .before .args .contents))) ≤ length (now (c .before .before .before .before .before .before .before .before .args .out))
