@@ -66,7 +66,7 @@ module _ (most : ℕ) (t : Table) (st : St) (tells : Tells t st) (s : List ℕ) 
   unfolding written holds choose
   back su e other out h =
       let z : only (writerOf x) other most (again s x .type) (again s x .sub) ≡ layout most (again s x .type) (again s x .sub) =
-        only-own (writerOf x) other most (again s x .type) (again s x .sub) (restores-bytes .whose) in
+      only-own (writerOf x) other most (again s x .type) (again s x .sub) (restores-bytes .whose) in
       let d : recordRefusal (only (writerOf x) other most) su (again s x) ≡ 0 = refusal-own (only (writerOf x) other most) (layout most) su (again s x) z ∙ e in
       let l : length (take (place x) s) ≡ place x = length-take-le (place x) s (restores-bytes .inside) in
       record { answer = rw (d, restores-bytes .bytes, l, le-ltb (length out) (place x) h); left = rw (d, restores-bytes .bytes, l, le-ltb (length out) (place x) h) }

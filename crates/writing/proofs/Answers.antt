@@ -10,12 +10,16 @@ use lib.ListN.{length, take, drop, length-append}
 use borrow.Author.Tests.{lt-ltb, le-ltb, ltb-true, ltb-false}
 use Rattle.form.specs.Octets.{toBe}
 use Rattle.form.proofs.Octets.{length-toBe}
-use Rattle.form.specs.Put.{Given, message, octets, orElse, large, fieldsRefusal, recordRefusal}
+use Rattle.form.specs.Fmt.{join}
+use Rattle.form.specs.Put.{Given, lay, message, octets, orElse, large, fieldsRefusal, recordRefusal}
 use Rattle.form.specs.Shape.{Layout, St}
 use Rattle.form.specs.Words.{choose}
 use Rattle.copy.specs.Over.{over}
 use Rattle.copy.proofs.Laws.{more}
 use Rattle.writing.specs.Verdict.{written, holds, answers, leaves, capped, verdictOf}
+use Rattle.writing.specs.Times.{microOf, micros}
+use Rattle.writing.specs.declared.Time.{Time}
+use Rattle.writing.specs.declared.Time.the-variants.{Seconds, Micro}
 use Rattle.writing.specs.declared.Written.{Written}
 use Rattle.writing.specs.declared.Written.the-variants.{Octets, Refused}
 use Rattle.writing.proofs.Sums.{cap}
@@ -144,3 +148,8 @@ goes layout st g out n size room k v refused sized lent judged e =
 pub done : (layout : ℕ → ℕ → Layout) (st : St) (g : Given) (out l k : List ℕ) (size : ℕ) (v : Written) → Goes layout st g out size v
     → l ≡ over out 0 (toBe 4 (g .stamp) ++ (toBe 2 (g .type) ++ (toBe 2 (g .sub) ++ toBe 4 size))) → k ≡ over l 12 (message g) → (v ≡ answers layout st g out) × (k ≡ leaves layout st g out)
 done layout st g out l k size v f e d = (f .answer, laid g out l k size e d (f .exact) (f .space) ∙ f .left)
+
+-- the microseconds' octets
+pub micros-long : (t : Time) → length (join (lay (micros t))) ≡ microOf t
+micros-long (Seconds s) = refl
+micros-long (Micro s u) = simp (length-append, length-toBe)

@@ -2,7 +2,7 @@
 use mathlib.Core.Path.{_≡_, refl, sym, ap, _∙_}
 use mathlib.Core.Bool.{Bool, true, false}
 use mathlib.Core.List.{List}
-use Prim.Native.Nat.{ℕ, zero, suc, _<_}
+use Prim.Native.Nat.{ℕ, zero, suc, _<_, _≤_}
 use native.Mathlib.Omega.{arith}
 use lib.Dec.{eqb}
 use borrow.Author.Tests.{ne-eqb}
@@ -55,3 +55,22 @@ not-own most n k st vs t e = rw e
 pub own : (most n : ℕ) (k : Kind) → eqb (writer k) n ≡ true → layoutOf most (choose (eqb (writer k) n) k unlisted) ≡ layoutOf most k
 unfolding choose
 own most n k e = rw e
+
+-- ---- what the writers use: n is the number for the header's fields, where the Type is listed
+
+module _ (layout : ℕ → ℕ → Layout) (st : St) (g : Given) (fits : large 2 (g .type) ≡ 0) (listed : typeRefusal (layout (g .type) (g .sub)) ≡ 0)
+    (n : ℕ) (head : n ≡ orElse (large 4 (g .stamp)) (large 2 (g .sub))) where
+  pub head-stops : 0 < n → n ≡ fieldsRefusal layout st g
+  head-stops h = stops n (bodyRefusal (plan st (layout (g .type) (g .sub))) (g .values) (g .tail)) h ∙ rw head (head-first layout st g fits listed)
+    where
+      stops : (n m : ℕ) → 0 < n → n ≡ orElse n m
+      stops zero m h = absurd (omega arith)
+      stops (suc n) m h = refl
+
+  -- the message's fields are next
+  pub head-passes : (y : ℕ) → n ≤ 0 → y ≡ bodyRefusal (plan st (layout (g .type) (g .sub))) (g .values) (g .tail) → y ≡ fieldsRefusal layout st g
+  head-passes y h e = e ∙ passes n (bodyRefusal (plan st (layout (g .type) (g .sub))) (g .values) (g .tail)) h ∙ rw head (head-first layout st g fits listed)
+    where
+      passes : (n m : ℕ) → n ≤ 0 → m ≡ orElse n m
+      passes zero m h = refl
+      passes (suc n) m h = absurd (omega arith)

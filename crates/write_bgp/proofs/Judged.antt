@@ -1,0 +1,150 @@
+-- What the reader says of a BGP message is the number with which a writer refuses it. Assumes nothing.
+use mathlib.Core.Path.{_≡_, refl, sym, _∙_}
+use mathlib.Core.Bool.{Bool, true, false, cond}
+use mathlib.Core.List.{List, [], _∷_}
+use Prim.Native.Nat.{ℕ, _+_, _-_, _≤_, _<_}
+use native.Mathlib.Omega.{arith}
+use lib.Dec.{ltb}
+use lib.ListN.{length, take, drop, length-take, length-drop}
+use borrow.Author.Tests.{lt-ltb, le-ltb, ltb-true, ltb-false}
+use types.Run.{OneOf, miss}
+use denote.Enum.Declared.{tagOf}
+use Rattle.form.specs.Octets.{be}
+use Rattle.form.specs.Fmt.{end, test}
+use Rattle.form.specs.Pass.{Seen, note, pass, whole}
+use Rattle.form.specs.Put.{orElse, sized, refusal}
+use Rattle.form.specs.Words.{choose, num, skip, must, area, within}
+use Rattle.page.specs.Names.{marker, bgpLength, bgpType, bgpRest}
+use Rattle.page.specs.Bgp4mp.{message, messageRest}
+use Rattle.shown.specs.Told.{told}
+use Rattle.shown.specs.declared.Header.{Header}
+use Rattle.shown.specs.declared.Session.{Session}
+use Rattle.shown.specs.declared.Shown.{Shown}
+use Rattle.shown.specs.declared.Shown.the-variants.{Nothing, Refused, Unread, TableDump, PeerTable, Rib, RibGeneric, Change, Message}
+use Rattle.shown.proofs.Shown as declared
+use Rattle.writing.specs.Givens.{bgpValues}
+
+-- n is the number of the refusal, or 0
+unfoldable pub Judged : ℕ → Shown → Type 0
+Judged n Nothing = 0 ≡ n
+Judged n (Refused k p) = k ≡ n
+Judged n (Unread h p) = 0 ≡ n
+Judged n (TableDump h r) = 0 ≡ n
+Judged n (PeerTable h p) = 0 ≡ n
+Judged n (Rib h r) = 0 ≡ n
+Judged n (RibGeneric h f i r) = 0 ≡ n
+Judged n (Change h s o w) = 0 ≡ n
+Judged n (Message h s p k) = 0 ≡ n
+
+pub is-refused : (n k p : ℕ) (x : Shown) → x ≡ Refused k p → Judged n x → k ≡ n
+unfolding Judged
+is-refused n k p x e j = rw e at j
+
+pub not-refused : (n : ℕ) (x : Shown) → OneOf (0 ∷ 2 ∷ 3 ∷ 4 ∷ 5 ∷ 6 ∷ 7 ∷ 8 ∷ []) (tagOf declared.the-type x) → Judged n x → 0 ≡ n
+unfolding Judged
+not-refused n Nothing h j = j
+not-refused n (Refused k p) h j = absurd (miss (0 ∷ 2 ∷ 3 ∷ 4 ∷ 5 ∷ 6 ∷ 7 ∷ 8 ∷ []) 1 tt h)
+not-refused n (Unread a p) h j = j
+not-refused n (TableDump a r) h j = j
+not-refused n (PeerTable a p) h j = j
+not-refused n (Rib a r) h j = j
+not-refused n (RibGeneric a f i r) h j = j
+not-refused n (Change a s o w) h j = j
+not-refused n (Message a s p k) h j = j
+
+-- ---- the reader's number, by the message's length and its length field
+
+abbrev ends : (long k : ℕ) → ℕ
+ends long k = cond (ltb long (19 + k)) 5 (cond (ltb (19 + k) long) 6 0)
+
+abbrev number : (long n : ℕ) → ℕ
+number long n = cond (ltb long 16) 5 (cond (ltb long 18) 5 (cond (ltb long 19) 5 (cond (within 19 n 4096) (ends long (n - 19)) 10)))
+
+said : (k p : ℕ) → Judged k (Refused k p)
+unfolding Judged
+said k p = refl
+
+either : (b : Bool) (m n : ℕ) (x y : Shown) → Judged m x → Judged n y → Judged (cond b m n) (cond b x y)
+either true m n x y p q = p
+either false m n x y p q = q
+
+-- behind the type octet: `to` is told where the message ends
+rest : (to : List Seen → ℕ → ℕ → Shown) (n : ℕ) (b : List ℕ) → ((fs : List Seen) (a p : ℕ) → Judged (cond (ltb a (length b)) 6 0) (to fs a p))
+    → Judged (cond (within 19 n 4096) (ends (length b) (n - 19)) 10) (pass to Refused (messageRest 4096 n) b 19)
+unfolding pass messageRest must area
+rest to n b h = go (within 19 n 4096)
+  where
+    go : (w : Bool) → Judged (cond w (ends (length b) (n - 19)) 10) (pass to Refused (test (cond w 0 10) 3 (area bgpRest (n - 19) 3 (end (n - 16)))) b 19)
+    go true = either (ltb (length b) (19 + (n - 19))) _ _ _ _ (said 5 _) (h _ (19 + (n - 19)) _)
+    go false = said 10 _
+
+last : (b : Bool) (p : ℕ) (h : Header) (s : Session) (fs : List Seen) → Judged (cond b 6 0) (choose b (Refused 6 p) (told h s fs))
+unfolding choose Judged
+last true p h s fs = refl
+last false p h s fs = refl
+
+reader : (h : Header) (s : Session) (b : List ℕ) → Judged (number (length b) (be (take 2 (drop 16 b)))) (whole (told h s) Refused (message 4096) b 0)
+unfolding pass message num skip
+reader h s b =
+    let n : ℕ = be (take 2 (drop 16 b)) in
+    let seen : List Seen → List Seen = λ fs. note marker 0 16 16 (be (take 16 b)) (note bgpLength 16 2 18 n (note bgpType 18 1 19 (be (take 1 (drop 18 b))) fs)) in
+    either (ltb (length b) 16) _ _ _ _ (said 5 _)
+    (either (ltb (length b) 18) _ _ _ _ (said 5 _)
+    (either (ltb (length b) 19) _ _ _ _ (said 5 _)
+    (rest (λ fs a p. choose (ltb a (length b)) (Refused 6 p) (told h s (seen fs))) n b (λ fs a p. last (ltb a (length b)) p h s (seen fs)))))
+
+-- ---- the writer's
+
+short : (w d : ℕ) (b : List ℕ) → d ≤ length b → length b < d + w → sized (length (take w (drop d b))) w ≡ 5
+short w d b g h = let k : length (take w (drop d b)) < w = simp (length-take, length-drop) (omega arith) in rw (lt-ltb _ _ k)
+
+there : (w d : ℕ) (b : List ℕ) → d + w ≤ length b → sized (length (take w (drop d b))) w ≡ 0
+there w d b h =
+    let k : w ≤ length (take w (drop d b)) = simp (length-take, length-drop) (omega arith) in
+    let l : length (take w (drop d b)) ≤ w = simp (length-take, length-drop) (omega arith) in
+    rw (le-ltb _ _ k, le-ltb _ _ l)
+
+ending : (long k : ℕ) → 19 ≤ long → ends long k ≡ orElse (sized (long - 19) k) 0
+ending long k h = go (ltb long (19 + k)) (ltb (19 + k) long) refl refl
+  where
+    go : (t u : Bool) → ltb long (19 + k) ≡ t → ltb (19 + k) long ≡ u → cond t 5 (cond u 6 0) ≡ orElse (sized (long - 19) k) 0
+    go true u p q =
+        let a = ltb-true long (19 + k) p in
+        let s : long - 19 < k = omega arith in
+        sym (rw (lt-ltb (long - 19) k s))
+    go false true p q =
+        let a = ltb-false long (19 + k) p in
+        let b = ltb-true (19 + k) long q in
+        let s : k ≤ long - 19 = omega arith in
+        let r : k < long - 19 = omega arith in
+        sym (rw (le-ltb (long - 19) k s, lt-ltb k (long - 19) r))
+    go false false p q =
+        let a = ltb-false long (19 + k) p in
+        let b = ltb-false (19 + k) long q in
+        let s : k ≤ long - 19 = omega arith in
+        let r : long - 19 ≤ k = omega arith in
+        sym (rw (le-ltb (long - 19) k s, le-ltb k (long - 19) r))
+
+writes : (b : List ℕ) → number (length b) (be (take 2 (drop 16 b))) ≡ refusal (message 4096) (bgpValues b)
+unfolding refusal message messageRest num skip must area
+writes b = go (ltb (length b) 16) (ltb (length b) 18) (ltb (length b) 19) (within 19 n 4096) refl refl refl
+  where
+    n : ℕ
+    n = be (take 2 (drop 16 b))
+
+    go : (t u v w : Bool) → ltb (length b) 16 ≡ t → ltb (length b) 18 ≡ u → ltb (length b) 19 ≡ v
+        → cond t 5 (cond u 5 (cond v 5 (cond w (ends (length b) (n - 19)) 10)))
+        ≡ orElse (sized (length (take 16 b)) 16) (orElse (sized (length (take 2 (drop 16 b))) 2) (orElse (sized (length (take 1 (drop 18 b))) 1) (orElse (cond w 0 10) (orElse (sized (length (drop 19 b)) (n - 19)) 0))))
+    go true u v w p q r = sym (rw (short 16 0 b (omega arith) (ltb-true (length b) 16 p)))
+    go false true v w p q r = sym (rw (there 16 0 b (ltb-false (length b) 16 p), short 2 16 b (ltb-false (length b) 16 p) (ltb-true (length b) 18 q)))
+    go false false true w p q r =
+        sym (rw (there 16 0 b (ltb-false (length b) 16 p), there 2 16 b (ltb-false (length b) 18 q), short 1 18 b (ltb-false (length b) 18 q) (ltb-true (length b) 19 r)))
+    go false false false false p q r =
+        sym (rw (there 16 0 b (ltb-false (length b) 16 p), there 2 16 b (ltb-false (length b) 18 q), there 1 18 b (ltb-false (length b) 19 r)))
+    go false false false true p q r =
+        let h = ltb-false (length b) 19 r in
+        ending (length b) (n - 19) h
+        ∙ sym (rw (there 16 0 b (ltb-false (length b) 16 p), there 2 16 b (ltb-false (length b) 18 q), there 1 18 b h, length-drop))
+
+pub judged : (h : Header) (s : Session) (b : List ℕ) (x : Shown) → x ≡ whole (told h s) Refused (message 4096) b 0 → Judged (refusal (message 4096) (bgpValues b)) x
+judged h s b x e = rw (e, sym (writes b)) (reader h s b)

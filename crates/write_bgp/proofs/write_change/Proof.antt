@@ -1,0 +1,167 @@
+-- `write_bgp::write_change` meets its contract: header, microseconds, session, states. Assumes nothing.
+use mathlib.Core.Path.{_≡_, refl, sym, ap, _∙_}
+use mathlib.Core.List.{List, _++_}
+use Prim.Native.Nat.{ℕ, _+_, _*_, _^_, _≤_, _<_}
+use native.Mathlib.Omega.{arith}
+use denote.Ref.{now}
+use lib.ListN.{length}
+use Rattle.form.specs.Fmt.{join}
+use Rattle.form.specs.Octets.{toBe}
+use Rattle.form.specs.Put.{Given, lay, message}
+use Rattle.form.specs.Shape.{noTable}
+use Rattle.form.proofs.Octets.{length-toBe}
+use Rattle.copy.specs.Over.{over}
+use Rattle.writing.specs.Times.{microOf, micros}
+use Rattle.writing.specs.Only.{onlySub, changes}
+use Rattle.writing.specs.Givens.{changeGiven}
+use Rattle.writing.specs.Verdict.{capped}
+use Rattle.writing.proofs.Sums.{capped-more}
+use Rattle.writing.proofs.Answers.{refuses, Goes, goes, done, micros-long}
+use Rattle.write_bgp.proofs.Laws.{micro-small, opening, opening-long, change-octets, change-long, three-more}
+use borrow.Author.Needs.{needs}
+use Rattle.write_bgp.proofs.write_change.Statement.{statement}
+use Rattle.write_bgp.proofs.write_change.Tie as tie
+
+change-refusal-requires : tie.Need-change-refusal-requires
+change-refusal-requires c κs = search needs
+
+width-of-requires : tie.Need-width-of-requires
+width-of-requires c κs = search needs
+
+micro-requires : tie.Need-micro-requires
+micro-requires c κs = search needs
+
+mul-add : tie.Need-mul-add
+mul-add c = search needs
+
+abbrev given : tie.Start → Given
+given s =
+    let a = s .args in
+    changeGiven (a .time) (a .subtype) (a .peer) (a .local) (a .interface) (a .family) (now (a .theirs)) (now (a .ours)) (a .old) (a .new)
+
+add-add : tie.Need-add-add
+add-add c = let m = micro-small (c .before .before .before .before .before .before .args .time) in search needs
+
+add-add-2 : tie.Need-add-add-2
+add-add-2 c = let m = micro-small (c .before .before .before .before .before .before .args .time) in search needs
+
+add-requires : tie.Need-add-requires
+add-requires c κs = search needs
+
+add-requires-2 : tie.Need-add-requires-2
+add-requires-2 c κs = search needs
+
+-- the message's length, as it is added up
+sized : (c : tie.After-add2) → c .add2 .result ≡ capped (length (message (given (c .before .before .before .before .before .before .before .before))))
+sized c =
+    let a = c .before .before .before .before .before .before .before .before .args in
+    let m = c .before .before .micro .ensures in
+    let w = c .before .before .before .width-of .ensures .0 in
+    let l = change-long (a .time) (a .subtype) (a .peer) (a .local) (a .interface) (a .family) (now (a .theirs)) (now (a .ours)) (a .old) (a .new) in
+    let n : ℕ = c .before .before .micro .result + 2 * c .before .before .before .width-of .result + 8 + length (now (a .theirs)) in
+    c .add2 .ensures ∙ ap (λ (x : ℕ). capped (x + length (now (a .ours)))) (c .before .add .ensures) ∙ capped-more n (length (now (a .ours))) ∙ ap capped (omega arith)
+
+verdict-requires : tie.Need-verdict-requires
+verdict-requires c κs = search needs
+
+enum-told : tie.Need-enum-told
+enum-told c = search needs
+
+enum-told-2 : tie.Need-enum-told-2
+enum-told-2 c = search needs
+
+returns : tie.Need-returns
+returns c =
+    refuses _ _ (given (c .before .before .before .before .before .before .before .before .before .before .before)) (now (c .before .before .before .before .before .before .before .before .before .before .before .args .out)) _ _ _ _ (c .before .before .before .before .before .before .before .change-refusal .ensures) (sized (c .before .before .before)) refl (c .before .before .verdict .ensures) _ (c .enum-told2 .given .1)
+
+-- the record goes into the buffer
+fine : (c : tie.After-enum-told) → Goes (onlySub changes 4096) noTable (given (c .before .before .before .before .before .before .before .before .before .before .before)) (now (c .before .before .before .before .before .before .before .before .before .before .before .args .out)) (c .before .before .before .add2 .result) (c .before .before .verdict .result)
+fine c = goes _ _ _ _ _ _ _ _ _ (c .before .before .before .before .before .before .before .change-refusal .ensures) (sized (c .before .before .before)) refl (c .before .before .verdict .ensures) (c .enum-told .given .1)
+
+space : (c : tie.After-enum-told) → 12 + (microOf (c .before .before .before .before .before .before .before .before .before .before .before .args .time) + (c .before .before .before .before .before .before .width-of .result + (c .before .before .before .before .before .before .width-of .result + (8 + (length (now (c .before .before .before .before .before .before .before .before .before .before .before .args .theirs)) + length (now (c .before .before .before .before .before .before .before .before .before .before .before .args .ours))))))) ≤ length (now (c .before .before .before .before .before .before .before .before .before .before .before .args .out))
+space c =
+    let a = c .before .before .before .before .before .before .before .before .before .before .before .args in
+    let w = c .before .before .before .before .before .before .width-of .ensures .0 in
+    let l = change-long (a .time) (a .subtype) (a .peer) (a .local) (a .interface) (a .family) (now (a .theirs)) (now (a .ours)) (a .old) (a .new) in
+    omega (arith, fine c .space)
+
+bound : (c : tie.After-enum-told) → length (now (c .before .before .before .before .before .before .before .before .before .before .before .args .out)) < 2 ^ 64
+bound c = search needs
+
+seconds-requires : tie.Need-seconds-requires
+seconds-requires c κs = search needs
+
+bgp-type-requires : tie.Need-bgp-type-requires
+bgp-type-requires c κs = search needs
+
+put-head-requires : tie.Need-put-head-requires
+put-head-requires c κs = let s = space (c .before .before .before) in search needs
+
+put-micros-requires : tie.Need-put-micros-requires
+put-micros-requires c κs = let s = space (c .before .before .before .before .before .before .before) in search needs
+
+put-session-requires : tie.Need-put-session-requires
+put-session-requires c κs = let s = space (c .before .before .before .before .before .before .before .before .before .before .before) in let i = c .before .before .before .put-micros .ensures .0 in search needs
+
+put-number-requires : tie.Need-put-number-requires
+put-number-requires c κs = let s = space (c .before .before .before .before .before .before .before .before .before .before .before .before .before .before .before) in let i = c .before .before .before .before .before .before .before .put-micros .ensures .0 in let j = c .before .before .before .put-session .ensures .0 in search needs
+
+add-put-number : tie.Need-add-put-number
+add-put-number c = let q = bound (c .before .before .before .before .before .before .before .before .before .before .before .before .before .before .before .before .before .before .before) in let s = space (c .before .before .before .before .before .before .before .before .before .before .before .before .before .before .before .before .before .before .before) in let i = c .before .before .before .before .before .before .before .before .before .before .before .put-micros .ensures .0 in let j = c .before .before .before .before .before .before .before .put-session .ensures .0 in search needs
+
+put-number-requires-2 : tie.Need-put-number-requires-2
+put-number-requires-2 c κs = let s = space (c .before .before .before .before .before .before .before .before .before .before .before .before .before .before .before .before .before .before .before) in let i = c .before .before .before .before .before .before .before .before .before .before .before .put-micros .ensures .0 in let j = c .before .before .before .before .before .before .before .put-session .ensures .0 in search needs
+
+same-length : tie.Need-same-length
+same-length c = search needs
+
+returns-2 : tie.Need-returns-2
+returns-2 c =
+    let told = c .before .before .before .before .before .before .before .before .before .before .before .before .before .before .before .before .before .before .before .before .before .before in
+    let a = told .before .before .before .before .before .before .before .before .before .before .before .args in
+    let s = space told in
+    let kept = c .before .before .before .before .before .before .before .before .before .before .before .before .before .before .before .before .before .before .put-head .kept in
+    let known = c .before .before .before .before .before .before .before .before .before .before .before .before .before .before .before .before .slice-known2 .given in
+    let head = rw (c .before .before .before .before .before .before .before .before .before .before .before .before .before .before .before .before .before .before .before .before .seconds .ensures, c .before .before .before .before .before .before .before .before .before .before .before .before .before .before .before .before .before .before .before .bgp-type .ensures) at (c .before .before .before .before .before .before .before .before .before .before .before .before .before .before .before .before .before .before .put-head .ensures) in
+    let w = c .before .before .before .before .before .before .before .before .before .before .before .before .before .before .before .before .before .before .before .before .before .before .before .before .before .before .before .before .width-of in
+    let m : List ℕ = join (lay (micros (a .time))) in
+    let f : ℕ → List ℕ = λ w. opening w (a .peer) (a .local) (a .interface) (a .family) (now (a .theirs)) (now (a .ours)) in
+    let x = micros-long (a .time) in
+    let y = opening-long (w .result) (a .peer) (a .local) (a .interface) (a .family) (now (a .theirs)) (now (a .ours)) in
+    let rest =
+    three-more (c .before .before .before .before .before .before .before .before .before .before .before .before .before .before .before .before .before .before .put-head .last .0) m (f (w .result)) (toBe 2 (a .old)) (toBe 2 (a .new)) _ _ _ _ _ _ _
+    (c .before .before .before .before .before .before .before .before .before .before .before .before .before .before .put-micros .ensures .1) (c .before .before .before .before .before .before .before .before .before .before .put-session .ensures .1) (c .before .before .before .before .before .before .put-number .ensures) (c .before .before .put-number2 .ensures)
+    (c .before .before .before .before .before .before .before .before .before .before .before .before .before .before .put-micros .ensures .0 ∙ ap (λ (n : ℕ). 12 + n) (sym x))
+    (c .before .before .before .before .before .before .before .before .before .before .put-session .ensures .0 ∙ ap (λ (n : ℕ). c .before .before .before .before .before .before .before .before .before .before .before .before .before .before .put-micros .result + n) (sym y))
+    (ap (λ (n : ℕ). c .before .before .before .before .before .before .before .before .before .before .put-session .result + n) (sym (length-toBe 2 (a .old))))
+    (rw (x, y, length-toBe 2 (a .old), length-toBe 2 (a .new)) (search needs)) in
+    done _ _ _ _ _ _ _ _ (fine told) head
+    (rest ∙ ap (over (c .before .before .before .before .before .before .before .before .before .before .before .before .before .before .before .before .before .before .put-head .last .0) 12) (ap (λ (w : ℕ). m ++ (f w ++ (toBe 2 (a .old) ++ toBe 2 (a .new)))) (w .ensures .0)
+    ∙ sym (change-octets (a .time) (a .subtype) (a .peer) (a .local) (a .interface) (a .family) (now (a .theirs)) (now (a .ours)) (a .old) (a .new))))
+
+pub write-change-spec : {M : Type 1} → statement M
+write-change-spec =
+    tie.close
+    (tie.spec
+    change-refusal-requires
+    width-of-requires
+    micro-requires
+    mul-add
+    add-add
+    add-add-2
+    add-requires
+    add-requires-2
+    verdict-requires
+    enum-told
+    enum-told-2
+    returns
+    seconds-requires
+    bgp-type-requires
+    put-head-requires
+    put-micros-requires
+    put-session-requires
+    put-number-requires
+    add-put-number
+    put-number-requires-2
+    same-length
+    returns-2)
