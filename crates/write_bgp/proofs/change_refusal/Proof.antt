@@ -3,10 +3,9 @@ use mathlib.Core.Path.{_≡_, sym, ap, _∙_}
 use mathlib.Core.List.{List}
 use Prim.Native.Nat.{ℕ}
 use denote.Ref.{now}
-use lib.Dec.{lit<}
-use Rattle.form.specs.Put.{Value, orElse, large}
-use Rattle.page.specs.Bgp4mp.{session, stateChange, message}
-use lib.Dec.{eqb}
+use lib.Dec.{eqb, lit<}
+use Rattle.form.specs.Put.{Value, Given, orElse, large}
+use Rattle.page.specs.Bgp4mp.{session, stateChange}
 use Rattle.page.specs.Layout.{kind}
 use Rattle.page.specs.declared.Kind.{Kind}
 use Rattle.writing.specs.Times.{stampOf, microOf, bgp4mp}
@@ -24,11 +23,17 @@ seconds-requires c κs = search needs
 head-refusal-requires : tie.Need-head-refusal-requires
 head-refusal-requires c κs = search needs
 
+abbrev given : tie.Start → Given
+given s =
+    let a = s .args in
+    changeGiven (a .time) (a .subtype) (a .peer) (a .local) (a .interface) (a .family) (now (a .theirs)) (now (a .ours)) (a .old) (a .new)
+
+-- the header's number
 head : (c : tie.After-head-refusal) → c .head-refusal .result ≡ orElse (large 4 (stampOf (c .before .before .before .before .args .time))) (large 2 (c .before .before .before .before .args .subtype))
 head c = c .head-refusal .ensures ∙ ap (λ (x : ℕ). orElse (large 4 x) (large 2 (c .before .before .before .before .args .subtype))) (c .before .seconds .ensures)
 
 returns : tie.Need-returns
-returns c = head-stops _ _ (changeGiven (c .before .before .before .before .before .args .time) (c .before .before .before .before .before .args .subtype) (c .before .before .before .before .before .args .peer) (c .before .before .before .before .before .args .local) (c .before .before .before .before .before .args .interface) (c .before .before .before .before .before .args .family) (now (c .before .before .before .before .before .args .theirs)) (now (c .before .before .before .before .before .args .ours)) (c .before .before .before .before .before .args .old) (c .before .before .before .before .before .args .new)) (type-fits (c .before .before .before .before .before .args .time)) (own-typed 4096 changes (kind (bgp4mp (c .before .before .before .before .before .args .time)) (c .before .before .before .before .before .args .subtype)) (lit< tt)) _ (head (c .before)) (search needs)
+returns c = head-stops _ _ (given (c .before .before .before .before .before)) (type-fits (c .before .before .before .before .before .args .time)) (own-typed 4096 changes (kind (bgp4mp (c .before .before .before .before .before .args .time)) (c .before .before .before .before .before .args .subtype)) (lit< tt)) _ (head (c .before)) (search needs)
 
 micro-requires : tie.Need-micro-requires
 micro-requires c κs = search needs
@@ -36,6 +41,7 @@ micro-requires c κs = search needs
 kind-16-requires : tie.Need-kind-16-requires
 kind-16-requires c κs = search needs
 
+-- the kind, as the page has it
 kind-found : (c : tie.After-kind-16) → (c .kind-16 .result ≡ kind (bgp4mp (c .before .before .before .before .before .before .before .args .time)) (c .before .before .before .before .before .before .before .args .subtype)) × Sane (microOf (c .before .before .before .before .before .before .before .args .time)) (c .kind-16 .result)
 kind-found c = found (c .before .before .before .before .before .before .before .args .time) (c .before .before .before .before .before .before .before .args .subtype) _ _ (c .before .micro .ensures) (c .kind-16 .ensures)
 
@@ -46,7 +52,7 @@ returns-2 : tie.Need-returns-2
 returns-2 c =
     let a = c .before .before .before .before .before .before .before .before .args in
     let no = ap (λ (k : Kind). eqb (writer k) changes) (sym (kind-found (c .before) .0)) ∙ not-change (c .before .kind-16 .result) (c .match .keys2) in
-    head-passes _ _ (changeGiven (c .before .before .before .before .before .before .before .before .args .time) (c .before .before .before .before .before .before .before .before .args .subtype) (c .before .before .before .before .before .before .before .before .args .peer) (c .before .before .before .before .before .before .before .before .args .local) (c .before .before .before .before .before .before .before .before .args .interface) (c .before .before .before .before .before .before .before .before .args .family) (now (c .before .before .before .before .before .before .before .before .args .theirs)) (now (c .before .before .before .before .before .before .before .before .args .ours)) (c .before .before .before .before .before .before .before .before .args .old) (c .before .before .before .before .before .before .before .before .args .new)) (type-fits (a .time)) (own-typed 4096 changes (kind (bgp4mp (a .time)) (a .subtype)) (lit< tt)) _ (head (c .before .before .before .before)) _ (search needs)
+    head-passes _ _ (given (c .before .before .before .before .before .before .before .before)) (type-fits (a .time)) (own-typed 4096 changes (kind (bgp4mp (a .time)) (a .subtype)) (lit< tt)) _ (head (c .before .before .before .before)) _ (search needs)
     (sym (not-own 4096 changes (kind (bgp4mp (a .time)) (a .subtype)) _ _ _ no))
 
 states-refusal-requires : tie.Need-states-refusal-requires
@@ -65,9 +71,9 @@ returns-3 c =
     let e = c .before .before .before .before .width .given .1 in
     let w : ℕ = c .before .before .before .before .width .given .0 .1 .0 in
     let vs : ℕ → List Value = λ w. sessionValues w (a .peer) (a .local) (a .interface) (a .family) (now (a .theirs)) (now (a .ours)) (stateValues (a .old) (a .new)) in
-    let s = c .before .session-refusal .ensures (stateChange) (stateValues (a .old) (a .new)) (c .before .before .states-refusal .ensures) in
-    let y = c .stamped-refusal .ensures (session w (stateChange)) (vs w) s in
-    head-passes _ _ (changeGiven (c .before .before .before .before .before .before .before .before .before .before .before .before .before .args .time) (c .before .before .before .before .before .before .before .before .before .before .before .before .before .args .subtype) (c .before .before .before .before .before .before .before .before .before .before .before .before .before .args .peer) (c .before .before .before .before .before .before .before .before .before .before .before .before .before .args .local) (c .before .before .before .before .before .before .before .before .before .before .before .before .before .args .interface) (c .before .before .before .before .before .before .before .before .before .before .before .before .before .args .family) (now (c .before .before .before .before .before .before .before .before .before .before .before .before .before .args .theirs)) (now (c .before .before .before .before .before .before .before .before .before .before .before .before .before .args .ours)) (c .before .before .before .before .before .before .before .before .before .before .before .before .before .args .old) (c .before .before .before .before .before .before .before .before .before .before .before .before .before .args .new)) (type-fits (a .time)) (own-typed 4096 changes (kind (bgp4mp (a .time)) (a .subtype)) (lit< tt)) _ (head (c .before .before .before .before .before .before .before .before .before)) _ (search needs)
+    let s = c .before .session-refusal .ensures stateChange (stateValues (a .old) (a .new)) (c .before .before .states-refusal .ensures) in
+    let y = c .stamped-refusal .ensures (session w stateChange) (vs w) s in
+    head-passes _ _ (given (c .before .before .before .before .before .before .before .before .before .before .before .before .before)) (type-fits (a .time)) (own-typed 4096 changes (kind (bgp4mp (a .time)) (a .subtype)) (lit< tt)) _ (head (c .before .before .before .before .before .before .before .before .before)) _ (search needs)
     (change-body (a .time) _ w _ _ vs (rw (sym (k .0)) (k .1)) (sym (k .0) ∙ e) y)
 
 pub change-refusal-spec : {M : Type 1} → statement M

@@ -14,6 +14,7 @@ micro-requires c κs = search needs
 kind-16-requires : tie.Need-kind-16-requires
 kind-16-requires c κs = search needs
 
+-- the kind, as the page has it
 kind-found : (c : tie.After-kind-16) → (c .kind-16 .result ≡ kind (bgp4mp (c .before .before .args .time)) (c .before .before .args .subtype)) × Sane (microOf (c .before .before .args .time)) (c .kind-16 .result)
 kind-found c = found (c .before .before .args .time) (c .before .before .args .subtype) _ _ (c .before .micro .ensures) (c .kind-16 .ensures)
 
