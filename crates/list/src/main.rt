@@ -1,0 +1,4 @@
+// Lists the dump that standard input gives.
+fn main() {
+    listing::list_from(0);
+}
