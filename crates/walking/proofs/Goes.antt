@@ -1,0 +1,141 @@
+-- One step over a dump goes as the dump's walk does: at its end, at a fault, and past a record. Assumes nothing.
+use mathlib.Core.Path.{_≡_, refl, sym, ap, _∙_, subst}
+use mathlib.Core.Logic.{⊎-elim}
+use mathlib.Core.List.{List, []}
+use Prim.Native.Nat.{ℕ, _+_, _≤_, _<_}
+use native.Mathlib.Omega.{arith}
+use native.Mathlib.Nat.{eq-or-lt-of-le}
+use lib.ListN.{length, take, drop, length-drop, length-append}
+use lib.Seq.{drop-length, take-at}
+use Rattle.form.specs.Octets.{Octets}
+use Rattle.form.specs.Fmt.{Out, bad, good}
+use Rattle.form.specs.Body.{spell}
+use Rattle.form.specs.Shape.{St}
+use Rattle.form.specs.Record.{Rec, write, size, readRec, Valid, next, timeOf}
+use Rattle.form.specs.Dump.{stop, before, walkFrom}
+use Rattle.form.proofs.Octets.{octets-drop}
+use Rattle.form.proofs.Fmt.{Right}
+use Rattle.form.proofs.Record.{length-write, sound-rec}
+use Rattle.form.proofs.Alike.{Alike, alike-bad, alike-good, alike-record}
+use Rattle.form.proofs.Dump.{walk-end, walk-bad, walk-good, good-fits}
+use Rattle.page.specs.Layout.{layout}
+use Rattle.shown.specs.declared.Header.{Header}
+use Rattle.shown.specs.declared.Table.{Table}
+use Rattle.shown.specs.declared.Table.the-variants.{Holds}
+use Rattle.shown.specs.declared.Shown.{Shown}
+use Rattle.shown.specs.declared.Shown.the-variants.{Nothing, Refused, Unread, TableDump, PeerTable, Rib, RibGeneric, Change, Message}
+use Rattle.reading.specs.One.{readOne}
+use Rattle.round_trip.specs.Tells.{Tells}
+use Rattle.round_trip.specs.Agrees.{Same, Agrees, headerOf, headOf}
+use Rattle.round_trip.proofs.One.{one-record}
+use Rattle.round_trip.proofs.Accepts.{no-octets}
+use Rattle.walking.specs.Steps.{stepped, stepOf, stepAt}
+use Rattle.walking.specs.declared.Item.{Item}
+use Rattle.walking.specs.declared.Step.{Step}
+use Rattle.walking.specs.declared.Step.the-variants.{End, Fault, Record}
+use Rattle.walking.proofs.Table.{other-kind, peer-table}
+
+-- ---- what a step says of the walk from there on
+
+module _ (most : ℕ) (d : List ℕ) (at : ℕ) (st : St) where
+  -- no octets are left
+  pub record AtEnd : Type 0 where
+    pub here : at ≡ length d
+    pub walk : walkFrom (layout most) st at (drop at d) ≡ stop 0 at
+
+  -- no record stands there, and the walk stops with that fault
+  pub record AtFault (n p : ℕ) : Type 0 where
+    pub here : p ≡ at
+    pub number : n ≡ 0 → ⊥
+    pub walk : walkFrom (layout most) st at (drop at d) ≡ stop n p
+
+  -- a record stands there, and the walk goes on behind it
+  pub record Past (i : Item) (t : Table) : Type 0 where
+    pub rec : Rec
+    pub valid : Valid (layout most) st rec
+    pub tells : Tells t (next (layout most) rec st)
+    pub here : i .at ≡ at
+    pub ends : i .next ≡ at + size rec
+    pub on : at < i .next
+    pub inside : i .next ≤ length d
+    pub timed : i .time ≡ timeOf (layout most) rec
+    pub type : i .ty ≡ rec .type
+    pub sub : i .subtype ≡ rec .sub
+    pub long : i .length ≡ length (spell (rec .body))
+    pub octets : take (size rec) (drop at d) ≡ write rec
+    pub walk : walkFrom (layout most) st at (drop at d) ≡ before rec (walkFrom (layout most) (next (layout most) rec st) (i .next) (drop (i .next) d))
+
+  abbrev pub Goes : Step → Type 0
+  Goes End = AtEnd
+  Goes (Fault n p) = AtFault n p
+  Goes (Record i t) = Past i t
+
+-- ---- the law
+
+module _ (most : ℕ) (d : List ℕ) (oc : Octets d) (at : ℕ) (bound : at ≤ length d) (t : Table) (st : St) (tells : Tells t st) where
+  abbrev s : List ℕ
+  s = drop at d
+
+  ended : at ≡ length d → Goes most d at st (stepOf t at (readOne most t s))
+  ended e =
+      let z : readOne most t s ≡ Nothing = rw (e, drop-length) (no-octets most t) in
+      rw z (record { here = e; walk = rw e (walk-end (layout most) st d) })
+
+  module _ (more : at < length d) where
+    faulty : (n p : ℕ) → Right (Valid (layout most) st) write s (bad n p) → Alike {A = Rec} (bad n p) (readRec (layout most) st at s) → AtFault most d at st n at
+    faulty n p r a =
+        let b = alike-bad n p (readRec (layout most) st at s) a in
+        record { here = refl; number = r; walk = walk-bad (layout most) st at d n (b .0) oc more (b .1) }
+
+    -- a record with this header, and this table told behind it
+    past : (r : Rec) (q : List ℕ) → Right (Valid (layout most) st) write s (good r q) → Alike (good r q) (readRec (layout most) st at s) → (h : Header) → h ≡ headOf most r → (u : Table)
+        → Tells u (next (layout most) r st) → Goes most d at st (stepped at h u)
+    unfolding timeOf
+    past r q w a h e u after =
+        let g : readRec (layout most) st at s ≡ good r q = alike-good r q (readRec (layout most) st at s) a in
+        let k : at + size r ≤ length d = good-fits (layout most) st at d r q oc bound g in
+        rw e (record {
+          rec = r;
+          valid = w .0;
+          tells = after;
+          here = refl;
+          ends = refl;
+          on = omega arith;
+          inside = k;
+          timed = refl;
+          type = refl;
+          sub = refl;
+          long = refl;
+          octets = rw (← (w .1)) (take-at (write r) q (size r) (length-write r));
+          walk = walk-good (layout most) st at d r q oc more g;
+        })
+
+    shown : (r : Rec) (q : List ℕ) → Right (Valid (layout most) st) write s (good r q) → Alike (good r q) (readRec (layout most) st at s) → (x : Shown) → Same most s r x
+        → Goes most d at st (stepOf t at x)
+    shown r q w a Nothing m = absurd (omega (arith, m .ends))
+    shown r q w a (Refused n p) m = absurd (omega (arith, m .ends))
+    shown r q w a (Unread h c) m = past r q w a h (m .headed) t (other-kind most s r (Unread h c) t st m (λ e. omega arith) tells)
+    shown r q w a (TableDump h f) m = past r q w a h (m .headed) t (other-kind most s r (TableDump h f) t st m (λ e. omega arith) tells)
+    shown r q w a (PeerTable h f) m = past r q w a h (m .headed) (Holds (f .count)) (peer-table most r st (f .count) _ (sym (m .whose)) (m .gives .tail))
+    shown r q w a (Rib h f) m = past r q w a h (m .headed) t (other-kind most s r (Rib h f) t st m (λ e. omega arith) tells)
+    shown r q w a (RibGeneric h f i l) m = past r q w a h (m .headed) t (other-kind most s r (RibGeneric h f i l) t st m (λ e. omega arith) tells)
+    shown r q w a (Change h f o n) m = past r q w a h (m .headed) t (other-kind most s r (Change h f o n) t st m (λ e. omega arith) tells)
+    shown r q w a (Message h f b k) m = past r q w a h (m .headed) t (other-kind most s r (Message h f b k) t st m (λ e. omega arith) tells)
+
+    found : (o : Out Rec) → Right (Valid (layout most) st) write s o → Alike o (readRec (layout most) st at s) → (x : Shown) → Agrees most s o x → Goes most d at st (stepOf t at x)
+    found (bad n p) w a x e = rw e (faulty n p w a)
+    found (good r q) w a x m = shown r q w a x m
+
+    goes-on : Goes most d at st (stepOf t at (readOne most t s))
+    goes-on =
+        let os : Octets s = octets-drop at d oc in
+        let l : 0 < length s = rw length-drop (omega arith) in
+        found (readRec (layout most) st 0 s) (sound-rec (layout most) st 0 s os) (alike-record (layout most) st 0 at s) (readOne most t s) (one-record most t st tells s os l)
+
+  pub goes : Goes most d at st (stepAt most t d at)
+  unfolding stepAt
+  goes = ⊎-elim ended goes-on (eq-or-lt-of-le bound)
+
+  -- where the step's answer is known
+  pub goes-to : (o : Step) → stepAt most t d at ≡ o → Goes most d at st o
+  goes-to o e = subst (Goes most d at st) e goes

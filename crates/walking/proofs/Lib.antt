@@ -1,0 +1,4 @@
+pub mod Table
+pub mod Goes
+pub mod Ahead
+pub mod Demand2
