@@ -33,9 +33,10 @@ fn verdict(fault: u8, place: usize) {
 pub fn list(d: &[u8]) {
     let mut at = 0;
     let mut t = Table::Absent;
-    while at < d.len() {
+    loop {
         match step_at(d, at, t) {
             Step::End => {
+                verdict(0, at);
                 return;
             }
             Step::Fault(n, p) => {
@@ -49,7 +50,6 @@ pub fn list(d: &[u8]) {
             }
         }
     }
-    verdict(0, at);
 }
 
 // The dump that a file descriptor gives, of at most 65,536 octets.

@@ -53,8 +53,13 @@ module _ (most : ℕ) where
       let o : Octets (write r ++ (writes rs ++ b)) = subst Octets e oc in
       let l : length (write r) ≡ size r = length-write r in
       let n : at + size r + length (writes rs) ≡ at + length (write r ++ writes rs) = rw (length-append, l) (omega arith) in
-      rw (e, walk-on (layout most) st at (write r ++ (writes rs ++ b)) o (rw (length-append, l) (omega arith)), complete-rec (layout most) st at r (writes rs ++ b) (v .0),
-      past-records rs (next (layout most) r st) (at + size r) b (v .1) (octets-right (write r) (writes rs ++ b) o), n)
+      rw (
+        e,
+        walk-on (layout most) st at (write r ++ (writes rs ++ b)) o (rw (length-append, l) (omega arith)),
+        complete-rec (layout most) st at r (writes rs ++ b) (v .0),
+        past-records rs (next (layout most) r st) (at + size r) b (v .1) (octets-right (write r) (writes rs ++ b) o),
+        n,
+      )
 
   pub past-accepted : (a b : List ℕ) → Octets a → Octets b → (s : Splits (layout most) a)
       → walked most (a ++ b) ≡ walkedOf (befores (s .0) (walkFrom (layout most) (nexts (layout most) (s .0) noTable) (length a) b))

@@ -29,6 +29,8 @@ use Rattle.round_trip.specs.Tells.{Tells}
 use Rattle.round_trip.specs.Agrees.{Same, Agrees, headerOf, headOf}
 use Rattle.round_trip.proofs.One.{one-record}
 use Rattle.round_trip.proofs.Accepts.{no-octets}
+use Rattle.shown.specs.Table.{tableOf}
+use Rattle.round_trip.proofs.Accepts.{tells-table}
 use Rattle.walking.specs.Steps.{stepped, stepOf, stepAt}
 use Rattle.walking.specs.declared.Item.{Item}
 use Rattle.walking.specs.declared.Step.{Step}
@@ -139,3 +141,8 @@ module _ (most : ℕ) (d : List ℕ) (oc : Octets d) (at : ℕ) (bound : at ≤ 
   -- where the step's answer is known
   pub goes-to : (o : Step) → stepAt most t d at ≡ o → Goes most d at st o
   goes-to o e = subst (Goes most d at st) e goes
+
+-- a step goes on, and stays inside the dump, whatever table is told
+pub step-on : (most : ℕ) (d : List ℕ) → Octets d → (at : ℕ) → at ≤ length d → (t : Table) (i : Item) (u : Table) → stepAt most t d at ≡ Record i u
+    → (at < i .next) × (i .next ≤ length d)
+step-on most d oc at h t i u e = let g = goes-to most d oc at h t (tableOf t) (tells-table t) (Record i u) e in (g .on, g .inside)

@@ -1,0 +1,33 @@
+//! What can be wrong with a record.
+
+/// A reason to refuse a record; the discriminant is its number in document 01.
+#[derive(Clone, Copy, Debug, PartialEq, Eq)]
+#[repr(u8)]
+pub enum Fault {
+    /// Too few octets remain for a header.
+    HeaderIncomplete = 1,
+    /// The header promises more octets than follow it.
+    LengthPastEnd = 2,
+    UnknownType = 3,
+    UnknownSubtype = 4,
+    /// A field does not fit in what is left of the message.
+    FieldIncomplete = 5,
+    /// The last field is read, but octets remain.
+    OctetsLeft = 6,
+    /// Neither IPv4 nor IPv6, or neither unicast nor multicast.
+    BadFamily = 7,
+    BadPrefixLength = 8,
+    BadState = 9,
+    BadBgpLength = 10,
+    AttributesDoNotTile = 11,
+    /// A RIB record that no peer table precedes.
+    NoTable = 12,
+    /// An entry that names a peer past the end of the table.
+    NoSuchPeer = 13,
+}
+
+impl Fault {
+    pub fn number(self) -> u8 {
+        self as u8
+    }
+}

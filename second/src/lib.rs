@@ -1,0 +1,20 @@
+//! A second reader and writer of MRT dumps, made to be compared with another
+//! one. Records are plain values: they are read from a [`reader::Reader`],
+//! can be looked at, changed or filtered, and are put back by a
+//! [`writer::Writer`].
+
+pub mod attributes;
+pub mod bgp4mp;
+pub mod dump;
+pub mod fault;
+pub mod layout;
+pub mod listing;
+pub mod net;
+pub mod peer_table;
+pub mod reader;
+pub mod record;
+pub mod rib;
+pub mod sample;
+pub mod table_dump;
+pub mod vectors;
+pub mod writer;

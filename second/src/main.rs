@@ -1,0 +1,71 @@
+//! The command line.
+
+use second::dump::Dump;
+use second::listing::listing;
+use second::sample;
+use second::vectors::Suite;
+use std::io::{self, Write};
+use std::path::Path;
+use std::process::ExitCode;
+use std::{env, fs};
+
+const USAGE: &str = "usage: second list FILE..
+       second roundtrip FILE..
+       second vectors DIR
+       second sample FILE";
+
+fn main() -> ExitCode {
+    let arguments: Vec<String> = env::args().skip(1).collect();
+    match run(&arguments) {
+        Ok(true) => ExitCode::SUCCESS,
+        Ok(false) => ExitCode::FAILURE,
+        Err(error) => {
+            eprintln!("second: {error}");
+            ExitCode::from(2)
+        }
+    }
+}
+
+fn run(arguments: &[String]) -> io::Result<bool> {
+    let Some((command, operands)) = arguments.split_first() else {
+        return Err(io::Error::other(USAGE));
+    };
+    match (command.as_str(), operands) {
+        ("list", [_, ..]) => list(operands),
+        ("roundtrip", [_, ..]) => roundtrip(operands),
+        ("vectors", [directory]) => Suite::generate().write_to(Path::new(directory)).map(|()| true),
+        ("sample", [file]) => fs::write(file, sample::octets()).map(|()| true),
+        _ => Err(io::Error::other(USAGE)),
+    }
+}
+
+fn read(file: &str) -> io::Result<Vec<u8>> {
+    fs::read(file).map_err(|error| io::Error::new(error.kind(), format!("{file}: {error}")))
+}
+
+fn list(files: &[String]) -> io::Result<bool> {
+    let mut text = String::new();
+    for file in files {
+        if files.len() > 1 {
+            text.push_str(&format!("{file}\n"));
+        }
+        text.push_str(&listing(&read(file)?));
+    }
+    io::stdout().write_all(text.as_bytes())?;
+    Ok(true)
+}
+
+/// Reads each file and compares it, up to its first fault, with what writing
+/// its records gives.
+fn roundtrip(files: &[String]) -> io::Result<bool> {
+    let mut all_same = true;
+    for file in files {
+        let octets = read(file)?;
+        let dump = Dump::read(&octets);
+        let same = dump.to_octets() == octets[..dump.end.place];
+        let verdict = if same { "same" } else { "differs" };
+        println!("{file}: {verdict}, {} of {} octets", dump.end.place, octets.len());
+        all_same &= same;
+    }
+    Ok(all_same)
+}

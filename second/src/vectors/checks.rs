@@ -1,0 +1,396 @@
+//! Each field's own check, on both sides of its boundary.
+
+use super::examples::one;
+use super::rng::Rng;
+use super::shapes::{
+    address, bgp_message, family_name, generic_rib, keepalive, peer_table, plain_table, rib,
+    state_change, table_dump, unread, withdrawal, Route, EXTENDED_PATH, FAMILIES, MESSAGES, PATH,
+    STATE_CHANGES,
+};
+use super::sketch::Sketch;
+use super::Suite;
+use crate::net::Family::{self, V4, V6};
+
+pub fn add(suite: &mut Suite) {
+    types(suite);
+    subtypes(suite);
+    families(suite);
+    safis(suite);
+    states(suite);
+    prefix_lengths(suite);
+    prefix_octets(suite);
+    attributes(suite);
+    attribute_lengths(suite);
+    bgp_lengths(suite);
+    bgp_types(suite);
+    microseconds(suite);
+    short_microseconds(suite);
+    peer_types(suite);
+    view_names(suite);
+}
+
+fn types(suite: &mut Suite) {
+    let record = state_change(16, 0, V4);
+    let wrong = [0, 10, 14, 15, 18, 31, 34, 47, 50, 2816, 4096, 65_535];
+    for code in wrong {
+        suite.bad(format!("type-{code}-unknown"), &[], &record.retyped(code, 0).record(), 3);
+    }
+}
+
+fn subtypes(suite: &mut Suite) {
+    let table = [plain_table(1).record()];
+    for subtype in [0, 3, 257, 65_535] {
+        let record = table_dump(V4, &PATH).retyped(12, subtype).record();
+        suite.bad(format!("12-{subtype}-unknown-subtype"), &[], &record, 4);
+    }
+    for subtype in [0, 7, 8, 258] {
+        let record = rib(2, 0, &[], &[]).retyped(13, subtype).record();
+        suite.bad(format!("13-{subtype}-unknown-subtype"), &table, &record, 4);
+    }
+    for code in [16, 17] {
+        for subtype in [2, 3, 8, 256] {
+            let record = state_change(code, 0, V4).retyped(code, subtype).record();
+            suite.bad(format!("{code}-{subtype}-unknown-subtype"), &[], &record, 4);
+        }
+    }
+    for code in [11, 32, 33, 48, 49] {
+        let records = [1, 2, 7, 256, 65_535].map(|subtype| unread(code, subtype, b"any").record());
+        suite.good(format!("{code}-any-subtype"), &records);
+        suite.good(format!("{code}-no-contents"), &[unread(code, 0, b"").record()]);
+    }
+}
+
+fn families(suite: &mut Suite) {
+    for code in [16, 17] {
+        for subtype in STATE_CHANGES {
+            let record = state_change(code, subtype, V4).set_n("family", 3).record();
+            suite.bad(format!("{code}-{subtype}-family3"), &[], &record, 7);
+        }
+        for subtype in MESSAGES {
+            let record = withdrawal(code, subtype, V6).set_n("family", 0).record();
+            suite.bad(format!("{code}-{subtype}-family0"), &[], &record, 7);
+        }
+    }
+    let table = [plain_table(1).record()];
+    for family in [0, 3, 258] {
+        let route = generic_rib(family, 1, 0, &[], &[]);
+        suite.bad(format!("13-6-family{family}"), &table, &route.record(), 7);
+    }
+    for family in [0, 256, 513, 65_535] {
+        let change = state_change(16, 0, V4).set_n("family", family);
+        suite.bad(format!("16-0-family{family}"), &[], &change.record(), 7);
+    }
+}
+
+fn safis(suite: &mut Suite) {
+    let table = [plain_table(1).record()];
+    let with = |family, safi| generic_rib(family, safi, 0, &[], &[]).record();
+    for safi in [0, 3, 128] {
+        suite.bad(format!("13-6-safi{safi}"), &table, &with(1, safi), 7);
+    }
+    let good = [with(1, 1), with(1, 2), with(2, 1), with(2, 2)];
+    suite.good("13-6-families-and-safis", &[&table[..], &good].concat());
+}
+
+fn states(suite: &mut Suite) {
+    for code in [16, 17] {
+        for (subtype, family) in [(0, V4), (5, V6)] {
+            let change = state_change(code, subtype, family);
+            states_of(suite, &format!("{code}-{subtype}-{}", family_name(family)), &change);
+        }
+    }
+    let change = state_change(16, 0, V4);
+    suite.bad("16-0-ipv4-old259", &[], &change.set_n("old-state", 259).record(), 9);
+    suite.bad("16-0-ipv4-new256", &[], &change.set_n("new-state", 256).record(), 9);
+    suite.bad("16-0-ipv4-new65535", &[], &change.set_n("new-state", 65_535).record(), 9);
+}
+
+fn states_of(suite: &mut Suite, name: &str, change: &Sketch) {
+    for state in [0, 7] {
+        suite.bad(format!("{name}-old{state}"), &[], &change.set_n("old-state", state).record(), 9);
+        suite.bad(format!("{name}-new{state}"), &[], &change.set_n("new-state", state).record(), 9);
+    }
+    let mut pairs = Vec::new();
+    for old in 1..=6 {
+        for new in 1..=6 {
+            pairs.push(change.set_n("old-state", old).set_n("new-state", new).record());
+        }
+    }
+    suite.good(format!("{name}-all-states"), &pairs);
+}
+
+/// The lengths to try that a family allows.
+fn good_lengths(family: Family) -> Vec<u8> {
+    let lengths = [0, 1, 7, 8, 9, 31, 32, 33, 127, 128];
+    lengths.into_iter().filter(|bits| *bits <= family.bits()).collect()
+}
+
+/// The least length that a family forbids, for some layouts others too.
+fn bad_lengths(name: &str, family: Family) -> Vec<u8> {
+    match (name, family) {
+        ("12-1-ipv4" | "13-2-ipv4", _) => vec![33, 127, 128, 129],
+        ("12-2-ipv6" | "13-4-ipv6", _) => vec![129, 255],
+        (_, V4) => vec![33],
+        (_, V6) => vec![129],
+    }
+}
+
+/// So many octets as the bits need, every bit set: none may be cleared.
+fn ones(bits: u8) -> Vec<u8> {
+    vec![0xff; usize::from(bits).div_ceil(8)]
+}
+
+/// RIB subtypes with the family that they hold.
+fn rib_forms() -> Vec<(&'static str, Family, u16)> {
+    vec![
+        ("13-2-ipv4", V4, 2),
+        ("13-3-ipv4", V4, 3),
+        ("13-4-ipv6", V6, 4),
+        ("13-5-ipv6", V6, 5),
+        ("13-6-ipv4", V4, 6),
+        ("13-6-ipv6", V6, 6),
+    ]
+}
+
+fn rib_of(family: Family, subtype: u16, bits: u8, prefix: &[u8], routes: &[Route]) -> Sketch {
+    match subtype {
+        6 => generic_rib(family.code().into(), 1, bits, prefix, routes),
+        _ => rib(subtype, bits, prefix, routes),
+    }
+}
+
+fn prefix_lengths(suite: &mut Suite) {
+    for family in FAMILIES {
+        let name = format!("12-{}-{}", family.code(), family_name(family));
+        let with =
+            |bits: u8| table_dump(family, &PATH).set_n("prefix-length", bits.into()).record();
+        prefix_lengths_of(suite, &name, family, &[], with);
+    }
+    let table = [plain_table(2).record()];
+    for (name, family, subtype) in rib_forms() {
+        let routes = [Route(1, &PATH)];
+        let with = |bits| rib_of(family, subtype, bits, &ones(bits), &routes).record();
+        prefix_lengths_of(suite, name, family, &table, with);
+    }
+}
+
+fn prefix_lengths_of(
+    suite: &mut Suite,
+    name: &str,
+    family: Family,
+    before: &[Vec<u8>],
+    with: impl Fn(u8) -> Vec<u8>,
+) {
+    let records: Vec<_> = good_lengths(family).into_iter().map(&with).collect();
+    suite.good(format!("{name}-prefix-lengths"), &[before, &records].concat());
+    for bits in bad_lengths(name, family) {
+        suite.bad(format!("{name}-prefix{bits}"), before, &with(bits), 8);
+    }
+}
+
+/// A prefix with one octet too few or too many, in a record without entries.
+fn prefix_octets(suite: &mut Suite) {
+    let table = [plain_table(1).record()];
+    for (name, family, subtype) in rib_forms().into_iter().step_by(2) {
+        let short = rib_of(family, subtype, 17, &[0; 2], &[]).record();
+        let long = rib_of(family, subtype, 16, &[0; 3], &[]).record();
+        suite.bad(format!("{name}-prefix17-in-2-octets"), &table, &short, 5);
+        suite.bad(format!("{name}-prefix16-in-3-octets"), &table, &long, 6);
+    }
+}
+
+/// One attribute with a 2-octet length, and so many octets behind it.
+fn extended(size: usize, there: usize) -> Vec<u8> {
+    let mut octets = vec![0xd0, 32, (size >> 8) as u8, size as u8];
+    octets.extend(vec![0xaa; there]);
+    octets
+}
+
+fn tiling() -> Vec<Vec<u8>> {
+    let mut longest_short = vec![0xc0, 32, 255];
+    longest_short.extend([0xbb; 255]);
+    vec![
+        vec![],
+        vec![0x40, 6, 0],
+        vec![0x50, 6, 0, 0],
+        extended(256, 256),
+        longest_short,
+        vec![0xff, 0xff, 0, 1, 9, 0xef, 0, 1, 9],
+        vec![0; 9],
+    ]
+}
+
+fn untiled() -> Vec<(&'static str, Vec<u8>)> {
+    vec![
+        ("flags-only", vec![0x40]),
+        ("no-length", vec![0x40, 1]),
+        ("one-short", vec![0x40, 1, 2, 0]),
+        ("half-extended-length", vec![0x50, 2, 0]),
+        ("extended-one-short", extended(256, 255)),
+        ("second-cut", [&PATH[..], &[0x80, 4]].concat()),
+        ("trailing-zero", vec![0x40, 1, 1, 0, 0]),
+    ]
+}
+
+fn attributes(suite: &mut Suite) {
+    let table = [plain_table(2).record()];
+    let old = |octets: &[u8]| table_dump(V6, octets).record();
+    let new =
+        |octets: &[u8]| rib(2, 0, &[], &[Route(0, &EXTENDED_PATH), Route(1, octets)]).record();
+    for (case, octets) in untiled() {
+        suite.bad(format!("12-2-attributes-{case}"), &[], &old(&octets), 11);
+        suite.bad(format!("13-2-attributes-{case}"), &table, &new(&octets), 11);
+    }
+    let good: Vec<_> = tiling().iter().map(|octets| old(octets)).collect();
+    suite.good("12-2-attributes-that-tile", &good);
+    let good: Vec<_> = tiling().iter().map(|octets| new(octets)).collect();
+    suite.good("13-2-attributes-that-tile", &[&table[..], &good].concat());
+    for (name, family, subtype) in rib_forms().into_iter().skip(1) {
+        let routes = [Route(1, &[0x40, 1, 1]), Route(0, &PATH)];
+        let record = rib_of(family, subtype, 0, &[], &routes).record();
+        suite.bad(format!("{name}-attributes-one-short"), &table, &record, 11);
+        let routes = [Route(1, &[]), Route(0, &[0x40, 1, 1, 0]), Route(1, &EXTENDED_PATH)];
+        let record = rib_of(family, subtype, 0, &[], &routes).record();
+        one(suite, format!("{name}-attributes-of-three"), &table, record, 0);
+    }
+}
+
+/// The attribute length against the octets that follow it.
+fn attribute_lengths(suite: &mut Suite) {
+    let tile = [0x40, 1, 1, 0];
+    let table = [plain_table(1).record()];
+    let old = table_dump(V4, &tile);
+    let new = rib(4, 0, &[], &[Route(0, &tile)]);
+    for (size, fault) in [(0, 6), (3, 11), (4, 0), (5, 5), (65_535, 5)] {
+        let record = old.set_n("attribute-length", size).record();
+        one(suite, format!("12-1-attribute-length{size}-of-4"), &[], record, fault);
+        let record = new.set_n("entry0-attribute-length", size).record();
+        one(suite, format!("13-4-attribute-length{size}-of-4"), &table, record, fault);
+    }
+}
+
+fn bgp_lengths(suite: &mut Suite) {
+    for code in [16, 17] {
+        for (subtype, family) in MESSAGES.into_iter().zip([V4, V6, V6, V4]) {
+            let name = format!("{code}-{subtype}-{}", family_name(family));
+            bgp_lengths_of(suite, &name, &keepalive(code, subtype, family));
+        }
+        long_messages(suite, code);
+    }
+    let alive = keepalive(16, 1, V4);
+    for (length, fault) in [(0, 10), (256, 5), (4096, 5), (4097, 10), (4865, 10), (65_535, 10)] {
+        let record = alive.set_n("bgp-length", length).record();
+        suite.bad(format!("16-1-ipv4-bgp-length{length}-of-19"), &[], &record, fault);
+    }
+}
+
+/// About the smallest size; good ones stand before the one that is not.
+fn bgp_lengths_of(suite: &mut Suite, name: &str, alive: &Sketch) {
+    let longer = alive.set("bgp-rest", &[0]);
+    let good = [alive.record(), longer.set_n("bgp-length", 20).record()];
+    for (length, fault) in [(18, 10), (20, 5)] {
+        let record = alive.set_n("bgp-length", length).record();
+        suite.bad(format!("{name}-bgp-length{length}-of-19"), &good, &record, fault);
+    }
+    suite.bad(format!("{name}-bgp-length19-of-20"), &good, &longer.record(), 6);
+}
+
+/// Messages about the largest size, with more and fewer octets there.
+fn long_messages(suite: &mut Suite, code: u16) {
+    let cases = [
+        (4095, 4095, 0),
+        (4096, 4096, 0),
+        (4097, 4097, 10),
+        (4096, 4095, 5),
+        (4096, 4097, 6),
+        (4097, 4096, 10),
+    ];
+    for (length, there, fault) in cases {
+        let record = bgp_message(code, 4, V6, 2, &vec![0x5a; there - 19]);
+        let record = record.set_n("bgp-length", length).record();
+        let name = format!("{code}-4-ipv6-bgp-length{length}-of-{there}");
+        one(suite, name, &[], record, fault);
+    }
+}
+
+/// The type of a BGP message and its marker are not judged.
+fn bgp_types(suite: &mut Suite) {
+    for code in [16, 17] {
+        let alive = keepalive(code, 1, V4);
+        let mut records: Vec<_> =
+            [0, 1, 2, 3, 4, 5, 255].map(|kind| alive.set_n("bgp-type", kind).record()).into();
+        records.push(alive.set("marker", &[0; 16]).record());
+        suite.good(format!("{code}-1-ipv4-any-bgp-type-and-marker"), &records);
+    }
+}
+
+fn microseconds(suite: &mut Suite) {
+    let micros = [0, 1, 999_999, 1_000_000, 1_500_000, 4_294_967_295];
+    for code in [33, 49] {
+        let sketch = unread(code, 0, b"pdu").at(7);
+        let records = micros.map(|micro| sketch.set_n("micro", micro).record());
+        suite.good(format!("{code}-microseconds"), &records);
+    }
+    for subtype in STATE_CHANGES {
+        let sketch = state_change(17, subtype, V6).at(1);
+        let records = micros.map(|micro| sketch.set_n("micro", micro).record());
+        suite.good(format!("17-{subtype}-ipv6-microseconds"), &records);
+    }
+    for subtype in MESSAGES {
+        let sketch = withdrawal(17, subtype, V4).at(4_294_967_295);
+        let records = micros.map(|micro| sketch.set_n("micro", micro).record());
+        suite.good(format!("17-{subtype}-ipv4-microseconds"), &records);
+    }
+    let times = [0, 1, 2_147_483_647, 2_147_483_648, 4_294_967_295];
+    let records = times.map(|time| unread(11, 0, b"lsa").at(time).record());
+    suite.good("11-0-timestamps", &records);
+}
+
+/// Length 0 to 4 where the message must open with microseconds.
+fn short_microseconds(suite: &mut Suite) {
+    for code in [17, 33, 49] {
+        let sketch = Sketch::new(code, 0).n("micro", 4, 5);
+        for size in [0, 3] {
+            suite.bad(format!("{code}-0-length{size}"), &[], &sketch.ending_at(size), 5);
+        }
+        let fault = if code == 17 { 5 } else { 0 };
+        one(suite, format!("{code}-0-length4"), &[], sketch.record(), fault);
+    }
+}
+
+fn peer_types(suite: &mut Suite) {
+    let every: Vec<u8> = (0..=255).collect();
+    suite.good("13-1-every-peer-type", &[peer_table(b"", &every).record()]);
+    for octet in [0, 1, 254, 255] {
+        let table = peer_table(b"x", &[octet]);
+        let wrong = table.set_n("peer0-type", u64::from(octet ^ 1)).record();
+        let fault = if octet & 1 == 0 { 5 } else { 6 };
+        suite.bad(format!("13-1-peer-type{octet}-other-family"), &[], &wrong, fault);
+        let wrong = table.set_n("peer0-type", u64::from(octet ^ 2)).record();
+        let fault = if octet & 2 == 0 { 5 } else { 6 };
+        suite.bad(format!("13-1-peer-type{octet}-other-as-width"), &[], &wrong, fault);
+    }
+    let table = peer_table(b"", &[1]).set("peer0-address", &address(V6, 1)[..15]);
+    suite.bad("13-1-address-one-short", &[], &table.record(), 5);
+}
+
+fn view_names(suite: &mut Suite) {
+    let mut rng = Rng::seeded(3629);
+    let long = rng.octets(300);
+    let names: [(&str, &[u8]); 5] = [
+        ("ascii", b"main"),
+        ("utf8", "Sicht \u{e9}\u{4e2d}\u{1f600}".as_bytes()),
+        ("zero-octet", &[0]),
+        ("not-text", &[0xff, 0xc0, 0x80, 0xed, 0xa0, 0x80]),
+        ("300-octets", &long),
+    ];
+    for (name, octets) in names {
+        suite.good(format!("13-1-view-name-{name}"), &[peer_table(octets, &[2, 3]).record()]);
+    }
+    let table = peer_table(b"main", &[2]);
+    suite.bad("13-1-view-name-length65535", &[], &table.set_n("name-length", 65_535).record(), 5);
+    let bare = peer_table(b"main", &[]);
+    suite.bad("13-1-view-name-length5-of-4", &[], &bare.set_n("name-length", 5).record(), 5);
+    let zero = peer_table(&[0; 4], &[]);
+    suite.bad("13-1-view-name-length3-of-4", &[], &zero.set_n("name-length", 3).record(), 6);
+}

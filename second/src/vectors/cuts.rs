@@ -1,0 +1,78 @@
+//! Every layout as it should be, too short, and too long.
+
+use super::rng::Rng;
+use super::shapes::{self, Depth, Shape};
+use super::sketch::Span;
+use super::Suite;
+
+pub fn add(suite: &mut Suite) {
+    let mut rng = Rng::seeded(6396);
+    for shape in shapes::all() {
+        good(suite, &shape);
+        ends_early(suite, &shape, &mut rng);
+        file_ends(suite, &shape, &mut rng);
+        too_long(suite, &shape);
+    }
+}
+
+fn good(suite: &mut Suite, shape: &Shape) {
+    let records = [&shape.before[..], &[shape.sketch.record()]].concat();
+    suite.good(format!("{}-good", shape.name), &records);
+}
+
+/// The message stops in some field, and Length says so.
+fn ends_early(suite: &mut Suite, shape: &Shape, rng: &mut Rng) {
+    for span in picked(shape, rng) {
+        let size = span.end - span.start;
+        if shape.depth == Depth::Full || size == 1 {
+            ends_at(suite, shape, "ends-before", &span, span.start);
+        }
+        if size > 1 {
+            ends_at(suite, shape, "ends-inside", &span, span.start + 1 + rng.below(size - 1));
+        }
+    }
+}
+
+fn picked(shape: &Shape, rng: &mut Rng) -> Vec<Span> {
+    let mut spans = shape.sketch.spans();
+    spans.retain(|span| span.end > span.start);
+    if shape.depth == Depth::Few {
+        while spans.len() > 2 {
+            spans.remove(rng.below(spans.len()));
+        }
+    }
+    spans
+}
+
+fn ends_at(suite: &mut Suite, shape: &Shape, how: &str, span: &Span, size: usize) {
+    let name = format!("{}-{how}-{}", shape.name, span.name);
+    let record = shape.sketch.ending_at(size);
+    if span.name == "contents" {
+        suite.good(name, &[&shape.before[..], &[record]].concat());
+    } else {
+        suite.bad(name, &shape.before, &record, 5);
+    }
+}
+
+/// The file stops, and Length does not say so.
+fn file_ends(suite: &mut Suite, shape: &Shape, rng: &mut Rng) {
+    let record = shape.sketch.record();
+    let inside = 12 + rng.below(record.len() - 12);
+    let header = 1 + rng.below(11);
+    let name = |what| format!("{}-file-{what}", shape.name);
+    suite.bad(name("ends-in-message"), &shape.before, &record[..inside], 2);
+    if shape.depth == Depth::Full {
+        suite.bad(name("lacks-last-octet"), &shape.before, &record[..record.len() - 1], 2);
+        suite.bad(name("ends-in-header"), &shape.before, &record[..header], 1);
+    }
+}
+
+fn too_long(suite: &mut Suite, shape: &Shape) {
+    let name = format!("{}-one-too-many", shape.name);
+    let record = shape.sketch.followed_by(&[0]);
+    if shape.is_unread() {
+        suite.good(name, &[&shape.before[..], &[record]].concat());
+    } else {
+        suite.bad(name, &shape.before, &record, 6);
+    }
+}

@@ -1,0 +1,130 @@
+//! Dumps made up for comparing two programs, good ones and spoiled ones.
+
+mod appendix_a;
+mod checks;
+mod cuts;
+mod examples;
+mod order;
+mod places;
+mod random;
+pub mod rng;
+mod shapes;
+mod sketch;
+mod tables;
+
+use crate::listing::listing;
+use std::collections::{BTreeMap, BTreeSet};
+use std::path::Path;
+use std::{fs, io};
+
+/// What the maker of a vector meant a reader to find.
+#[derive(Clone, Copy, Debug, PartialEq, Eq)]
+pub struct Intent {
+    pub records: usize,
+    pub fault: u8,
+    pub place: usize,
+}
+
+pub struct Vector {
+    pub octets: Vec<u8>,
+    /// Absent where chance made the octets.
+    pub intent: Option<Intent>,
+}
+
+/// Vectors by name, in the order of their names.
+#[derive(Default)]
+pub struct Suite {
+    vectors: BTreeMap<String, Vector>,
+}
+
+impl Suite {
+    /// All vectors; the same at every call.
+    pub fn generate() -> Suite {
+        let mut suite = Suite::default();
+        appendix_a::add(&mut suite);
+        examples::add(&mut suite);
+        cuts::add(&mut suite);
+        checks::add(&mut suite);
+        tables::add(&mut suite);
+        order::add(&mut suite);
+        places::add(&mut suite);
+        random::add(&mut suite);
+        suite
+    }
+
+    pub fn iter(&self) -> impl Iterator<Item = (&str, &Vector)> {
+        self.vectors.iter().map(|(name, vector)| (name.as_str(), vector))
+    }
+
+    pub fn get(&self, name: &str) -> &Vector {
+        &self.vectors[name]
+    }
+
+    /// A dump of good records.
+    fn good(&mut self, name: impl Into<String>, records: &[Vec<u8>]) {
+        let octets = records.concat();
+        let intent = Intent { records: records.len(), fault: 0, place: octets.len() };
+        self.insert(name.into(), octets, Some(intent));
+    }
+
+    /// Good records, then one that gives the fault, and anything at all behind.
+    fn bad(&mut self, name: impl Into<String>, before: &[Vec<u8>], faulty: &[u8], fault: u8) {
+        let mut octets = before.concat();
+        let intent = Intent { records: before.len(), fault, place: octets.len() };
+        octets.extend(faulty);
+        self.insert(name.into(), octets, Some(intent));
+    }
+
+    /// Octets that nobody meant anything by.
+    fn chance(&mut self, name: impl Into<String>, octets: Vec<u8>) {
+        self.insert(name.into(), octets, None);
+    }
+
+    fn insert(&mut self, name: String, octets: Vec<u8>, intent: Option<Intent>) {
+        let earlier = self.vectors.insert(name.clone(), Vector { octets, intent });
+        assert!(earlier.is_none(), "two vectors named {name}");
+    }
+
+    /// Writes `data/NAME`, `args` and `stdout` below the directory.
+    pub fn write_to(&self, directory: &Path) -> io::Result<()> {
+        let data = directory.join("data");
+        fs::create_dir_all(&data)?;
+        self.refuse_strangers(&data)?;
+        for (name, vector) in &self.vectors {
+            fs::write(data.join(name), &vector.octets)?;
+        }
+        fs::write(directory.join("args"), self.names())?;
+        fs::write(directory.join("stdout"), self.listings())
+    }
+
+    /// Files of an earlier set would be in nobody's list.
+    fn refuse_strangers(&self, data: &Path) -> io::Result<()> {
+        for entry in fs::read_dir(data)? {
+            let name = entry?.file_name();
+            let name = name.to_string_lossy();
+            if !self.vectors.contains_key(name.as_ref()) {
+                return Err(io::Error::other(format!("{name} in data/ is no vector")));
+            }
+        }
+        Ok(())
+    }
+
+    fn names(&self) -> String {
+        self.vectors.keys().map(|name| format!("{name}\n")).collect()
+    }
+
+    fn listings(&self) -> String {
+        let text =
+            |(name, vector): (&String, &Vector)| format!("{name}\n{}", listing(&vector.octets));
+        self.vectors.iter().map(text).collect()
+    }
+
+    /// The fault numbers that are meant somewhere.
+    pub fn faults_meant(&self) -> BTreeSet<u8> {
+        self.vectors
+            .values()
+            .filter_map(|vector| vector.intent)
+            .map(|intent| intent.fault)
+            .collect()
+    }
+}

@@ -1,0 +1,105 @@
+//! Where a fault lies: after other records, at the end, at the size limit.
+
+use super::rng::Rng;
+use super::shapes::{
+    bgp_message, generic_rib, keepalive, plain_table, rib, state_change, table_dump, unread,
+    withdrawal, Route, PATH,
+};
+use super::Suite;
+use crate::net::Family::{V4, V6};
+
+pub fn add(suite: &mut Suite) {
+    short_files(suite);
+    later_records(suite);
+    first_fault_wins(suite);
+    size_limit(suite);
+}
+
+/// Files of 1 to 11 octets, and as many behind a good record.
+fn short_files(suite: &mut Suite) {
+    let record = withdrawal(17, 4, V4).record();
+    for size in 1..=11 {
+        suite.bad(format!("short-{size}-octets"), &[], &record[..size], 1);
+    }
+    for size in [1, 4, 11] {
+        let name = format!("short-{size}-octets-second");
+        suite.bad(name, std::slice::from_ref(&record), &vec![0xff; size], 1);
+    }
+    suite.bad("short-header-only-length-20", &[], &state_change(16, 0, V4).record()[..12], 2);
+    suite.good("short-header-only-length-0", &[unread(32, 9, b"").record()]);
+    suite.bad("short-header-only-length-0-type-16", &[], &state_change(16, 0, V4).ending_at(0), 5);
+}
+
+/// Every fault once in a second and once in a third record.
+fn later_records(suite: &mut Suite) {
+    let table = plain_table(2).record();
+    let third = [withdrawal(16, 7, V6).record(), table.clone()];
+    for (fault, record) in one_of_each() {
+        let second = match fault {
+            12 => vec![keepalive(17, 6, V4).record()],
+            _ => vec![table.clone()],
+        };
+        suite.bad(format!("second-record-fault{fault}"), &second, &record, fault);
+        if fault != 12 {
+            suite.bad(format!("third-record-fault{fault}"), &third, &record, fault);
+        }
+    }
+    let no_table = [third[0].clone(), unread(48, 1, b"lsa").record()];
+    suite.bad("third-record-fault12", &no_table, &generic_rib(2, 1, 0, &[], &[]).record(), 12);
+}
+
+fn one_of_each() -> Vec<(u8, Vec<u8>)> {
+    let change = state_change(17, 5, V6);
+    vec![
+        (1, change.record()[..7].to_vec()),
+        (2, change.claiming(1000)),
+        (3, change.retyped(7, 1).record()),
+        (4, change.retyped(17, 2).record()),
+        (5, change.ending_at(30)),
+        (6, change.followed_by(&[0, 0])),
+        (7, generic_rib(1, 5, 0, &[], &[]).record()),
+        (8, table_dump(V6, &PATH).set_n("prefix-length", 129).record()),
+        (9, change.set_n("old-state", 0).record()),
+        (10, keepalive(16, 6, V4).set_n("bgp-length", 18).record()),
+        (11, rib(5, 0, &[], &[Route(0, &[0x50, 2, 0])]).record()),
+        (12, rib(3, 0, &[], &[]).record()),
+        (13, rib(3, 0, &[], &[Route(2, &PATH)]).record()),
+    ]
+}
+
+fn first_fault_wins(suite: &mut Suite) {
+    let state = state_change(16, 0, V4).set_n("new-state", 0).record();
+    let unknown = state_change(16, 0, V4).retyped(2, 2).record();
+    suite.bad("first-of-two-faults-9-3", &[], &[&state[..], &unknown].concat(), 9);
+    suite.bad("first-of-two-faults-3-9", &[], &[&unknown[..], &state].concat(), 3);
+    let good = state_change(16, 0, V4).record();
+    let tail = [&state[..], &good, &[0; 5]].concat();
+    suite.bad("first-of-two-faults-9-1", std::slice::from_ref(&good), &tail, 9);
+    // A Length that reaches over the next record hides it.
+    let swallowing = unread(11, 0, b"lsa").claiming(3 + good.len() as u32);
+    let hidden = [swallowing, good].concat();
+    suite.good("length-covers-next-record", &[hidden]);
+}
+
+/// The largest dump that is listed, and one octet more.
+fn size_limit(suite: &mut Suite) {
+    let table = plain_table(1).record();
+    let room = 65_536 - table.len();
+    let full = filling(room);
+    let mut more = [table.clone(), full.clone()].concat();
+    suite.good("size-65536", &[table, full]);
+    more.push(0);
+    suite.chance("size-65537", more);
+    let mut rng = Rng::seeded(4096);
+    let largest = bgp_message(16, 1, V4, 2, &rng.octets(4077)).record();
+    suite.good("size-two-largest-messages", &[largest.clone(), largest]);
+}
+
+/// A RIB record of exactly so many octets, nearly all one attribute.
+fn filling(size: usize) -> Vec<u8> {
+    let around = rib(2, 0, &[], &[Route(0, &[0x50, 99, 0, 0])]).record().len();
+    let value = size - around;
+    let mut attribute = vec![0x50, 99, (value >> 8) as u8, value as u8];
+    attribute.extend(vec![0x11; value]);
+    rib(2, 0, &[], &[Route(0, &attribute)]).record()
+}
