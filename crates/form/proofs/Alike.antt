@@ -9,7 +9,7 @@ use Rattle.form.specs.Octets.{be}
 use Rattle.form.specs.Fmt.{Out, bad, good, bind, refuseIf, Fmt, end, test, field, read, join}
 use Rattle.form.specs.Body.{readN, Plan, just, free, many, Body, ended, readBody}
 use Rattle.form.specs.Shape.{Layout, St, plan, number}
-use Rattle.form.specs.Record.{Rec, header, readRec}
+use Rattle.form.specs.Record.{header, readRec}
 use Rattle.form.specs.Put.{faultOf}
 
 abbrev pub Alike : {A : Type 0} → Out A → Out A → Type 0

@@ -1,5 +1,5 @@
 -- A loop over a dump, step by step: what is behind it and what is ahead of it make the whole walk. Assumes nothing.
-use mathlib.Core.Path.{_≡_, refl, sym, ap, _∙_}
+use mathlib.Core.Path.{_≡_, refl, _∙_}
 use mathlib.Core.List.{List, [], _∷_, _++_, append-assoc, append-nil}
 use Prim.Native.Nat.{ℕ, _+_, _≤_, _<_}
 use native.Mathlib.Omega.{arith}
@@ -7,17 +7,17 @@ use lib.ListN.{length, drop, length-append}
 use Rattle.form.specs.Octets.{Octets}
 use Rattle.form.specs.Shape.{St, noTable}
 use Rattle.form.specs.Record.{Rec, next}
-use Rattle.form.specs.Dump.{Walk, stop, before, walkFrom, walkAll}
+use Rattle.form.specs.Dump.{Walk, stop, walkFrom, walkAll}
 use Rattle.page.specs.Layout.{layout}
 use Rattle.shown.specs.declared.Table.{Table}
 use Rattle.shown.specs.declared.Table.the-variants.{Absent}
 use Rattle.round_trip.specs.Tells.{Tells}
 use Rattle.walking.specs.Steps.{stepAt}
-use Rattle.walking.specs.Walked.{befores, walkedOf, walked}
+use Rattle.walking.specs.Walked.{befores, walked}
 use Rattle.walking.specs.declared.Item.{Item}
 use Rattle.walking.specs.declared.Step.the-variants.{End, Fault, Record}
 use Rattle.walking.specs.declared.Walked.{Walked}
-use Rattle.walking.proofs.Goes.{AtEnd, AtFault, Past, goes-to}
+use Rattle.walking.proofs.Goes.{goes-to}
 
 -- at offset at, behind n records, where the table t is told
 pub record Ahead (most : ℕ) (d : List ℕ) (at : ℕ) (t : Table) (n : ℕ) : Type 0 where

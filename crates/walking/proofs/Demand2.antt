@@ -1,21 +1,20 @@
 -- The walk, in the terms of its promise: no fault exactly where a dump splits into whole records; one dump after another. Assumes nothing.
-use mathlib.Core.Path.{_≡_, refl, sym, ap, _∙_, subst}
+use mathlib.Core.Path.{_≡_, sym, ap, _∙_, subst}
 use mathlib.Core.Logic.{_↔_}
 use mathlib.Core.List.{List, [], _∷_, _++_, append-assoc}
 use Prim.Native.Nat.{ℕ, _+_}
 use native.Mathlib.Omega.{arith}
-use native.Mathlib.Nat.{add-zero, zero-add, add-assoc}
+use native.Mathlib.Nat.{add-zero, zero-add}
 use lib.ListN.{length, length-append}
 use Rattle.form.specs.Octets.{Octets}
 use Rattle.form.specs.Shape.{St, noTable}
 use Rattle.form.specs.Record.{Rec, write, size, next}
-use Rattle.form.specs.Dump.{Walk, before, writes, walkFrom, walkAll, Valids, Splits, nexts}
+use Rattle.form.specs.Dump.{writes, walkFrom, walkAll, Valids, Splits, nexts}
 use Rattle.form.proofs.Octets.{octets-append, octets-right}
 use Rattle.form.proofs.Record.{length-write, complete-rec}
-use Rattle.form.proofs.Dump.{done, walk-on, accepts, shows, unique, splits-append}
+use Rattle.form.proofs.Dump.{walk-on, accepts, shows, unique, splits-append}
 use Rattle.page.specs.Layout.{layout}
 use Rattle.walking.specs.Walked.{befores, walkedOf, walked}
-use Rattle.walking.specs.declared.Walked.{Walked}
 
 module _ (most : ℕ) where
   -- ---- no fault exactly where the dump splits
@@ -62,9 +61,9 @@ module _ (most : ℕ) where
       )
 
   pub past-accepted : (a b : List ℕ) → Octets a → Octets b → (s : Splits (layout most) a)
-      → walked most (a ++ b) ≡ walkedOf (befores (s .0) (walkFrom (layout most) (nexts (layout most) (s .0) noTable) (length a) b))
+      → let w = walkFrom (layout most) (nexts (layout most) (s .0) noTable) (length a) b in
+      walked most (a ++ b) ≡ record { fault = w .fault; place = w .place; records = length (s .0) + length (w .recs) }
   unfolding walked walkAll
   past-accepted a b p q s =
       let o : Octets (writes (s .0) ++ b) = subst (λ (x : List ℕ). Octets (x ++ b)) (sym (s .2)) (octets-append a b p q) in
-      let h = past-records (s .0) noTable 0 b (s .1) o in
-      ap walkedOf (rw (s .2, zero-add) at h)
+      ap walkedOf (rw (s .2, zero-add) at (past-records (s .0) noTable 0 b (s .1) o)) ∙ rw length-append

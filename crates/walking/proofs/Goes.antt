@@ -1,11 +1,11 @@
 -- One step over a dump goes as the dump's walk does: at its end, at a fault, and past a record. Assumes nothing.
-use mathlib.Core.Path.{_≡_, refl, sym, ap, _∙_, subst}
+use mathlib.Core.Path.{_≡_, refl, sym, subst}
 use mathlib.Core.Logic.{⊎-elim}
-use mathlib.Core.List.{List, []}
+use mathlib.Core.List.{List}
 use Prim.Native.Nat.{ℕ, _+_, _≤_, _<_}
 use native.Mathlib.Omega.{arith}
 use native.Mathlib.Nat.{eq-or-lt-of-le}
-use lib.ListN.{length, take, drop, length-drop, length-append}
+use lib.ListN.{length, take, drop, length-drop}
 use lib.Seq.{drop-length, take-at}
 use Rattle.form.specs.Octets.{Octets}
 use Rattle.form.specs.Fmt.{Out, bad, good}
@@ -26,7 +26,7 @@ use Rattle.shown.specs.declared.Shown.{Shown}
 use Rattle.shown.specs.declared.Shown.the-variants.{Nothing, Refused, Unread, TableDump, PeerTable, Rib, RibGeneric, Change, Message}
 use Rattle.reading.specs.One.{readOne}
 use Rattle.round_trip.specs.Tells.{Tells}
-use Rattle.round_trip.specs.Agrees.{Same, Agrees, headerOf, headOf}
+use Rattle.round_trip.specs.Agrees.{Same, Agrees, headOf}
 use Rattle.round_trip.proofs.One.{one-record}
 use Rattle.round_trip.proofs.Accepts.{no-octets}
 use Rattle.shown.specs.Table.{tableOf}

@@ -1,13 +1,13 @@
 -- The table told behind a record that was shown tells the table in force behind it. Assumes nothing.
 use mathlib.Core.Path.{_≡_, refl, sym, ap, _∙_}
 use mathlib.Core.List.{List, [], _∷_, map}
-use Prim.Native.Nat.{ℕ, zero, suc, _+_}
+use Prim.Native.Nat.{ℕ, suc}
 use native.Mathlib.Omega.{arith}
 use lib.ListN.{length}
 use Rattle.form.specs.Body.{Body, plain, loose, listed}
-use Rattle.form.specs.Shape.{St, peersOf, itemsOf, asOf, after}
+use Rattle.form.specs.Shape.{St, itemsOf, asOf, after}
 use Rattle.form.specs.Record.{Rec, next}
-use Rattle.form.specs.Put.{Tail, nothing, carried, items}
+use Rattle.form.specs.Put.{nothing, items}
 use Rattle.form.specs.Gives.{tailOf}
 use Rattle.page.specs.Peers.{peer}
 use Rattle.page.specs.Layout.{layoutOf, layout, kind}
