@@ -1,29 +1,26 @@
 -- State changes and BGP messages as a writer has them: their kinds, and their octets. Assumes nothing.
 use mathlib.Core.Path.{_≡_, refl, sym, ap, _∙_}
-use mathlib.Core.Bool.{Bool, true, false, _||_}
 use mathlib.Core.List.{List, [], _∷_, _++_, append-assoc, append-nil}
 use Prim.Native.Nat.{ℕ, _+_, _≤_}
 use native.Mathlib.Omega.{arith}
-use lib.Dec.{eqb, lit≤}
 use lib.ListN.{length, take, drop, length-append, take-append-drop}
 use lib.Seq.{drop-drop}
-use borrow.Author.Tests.{ne-eqb}
 use types.Run.{OneOf, miss}
 use denote.Enum.Declared.{tagOf}
 use Rattle.form.specs.Fmt.{join}
 use Rattle.form.specs.Octets.{toBe}
-use Rattle.form.specs.Put.{Value, nothing, lay, message, large, refusal, bodyRefusal}
-use Rattle.form.specs.Shape.{noTable, plan}
+use Rattle.form.specs.Put.{Value, lay, message, large}
 use Rattle.form.specs.Words.{choose}
 use Rattle.form.proofs.Octets.{length-toBe}
-use Rattle.page.specs.Bgp4mp.{session, stateChange}
 use Rattle.page.specs.Bgp4mp as page
-use Rattle.page.specs.Layout.{kind, kind16, stamped, layoutOf, unlisted}
+use Rattle.page.specs.Layout.{kind, kind16}
 use Rattle.page.specs.declared.Kind.{Kind}
 use Rattle.page.specs.declared.Kind.the-variants.{Refused, Unread, TableDump, PeerTable, Rib, RibGeneric, Change, Message}
 use Rattle.page.proofs.Kind as declared
+use Rattle.page.specs.Sane.{Sane}
+use Rattle.page.proofs.Widths.{sane16, Stamps, stamps16}
 use Rattle.writing.specs.Times.{microOf, micros, bgp4mp}
-use Rattle.writing.specs.Only.{writer, changes, messages, asOctets}
+use Rattle.writing.specs.Only.{asOctets}
 use Rattle.writing.specs.Givens.{sessionValues, stateValues, bgpValues, changeGiven, messageGiven}
 use Rattle.writing.specs.declared.Time.{Time}
 use Rattle.writing.specs.declared.Time.the-variants.{Seconds, Micro}
@@ -46,53 +43,16 @@ pub micro-small : (t : Time) → microOf t ≤ 4
 micro-small (Seconds x) = omega arith
 micro-small (Micro x u) = omega arith
 
--- a kind of theirs has the microseconds m, and AS numbers of at most 4 octets
-abbrev pub Sane : (m : ℕ) → Kind → Type 0
-Sane m (Refused n p) = Unit
-Sane m (Unread micro) = Unit
-Sane m (TableDump size) = Unit
-Sane m PeerTable = Unit
-Sane m (Rib bits) = Unit
-Sane m RibGeneric = Unit
-Sane m (Change micro w) = (micro ≡ m) × (w ≤ 4)
-Sane m (Message micro w) = (micro ≡ m) × (w ≤ 4)
-
-both : (m : ℕ) (b : Bool) (x y : Kind) → Sane m x → Sane m y → Sane m (choose b x y)
-unfolding choose
-both m true x y p q = p
-both m false x y p q = q
-
-pub sane : (m s : ℕ) → Sane m (kind16 m s)
-unfolding kind16
-sane m s =
-    both m (eqb s 0) (Change m 2) _ (refl, lit≤ tt)
-    (both m (eqb s 5) (Change m 4) _ (refl, lit≤ tt)
-    (both m (eqb s 1 || eqb s 6) (Message m 2) _ (refl, lit≤ tt)
-    (both m (eqb s 4 || eqb s 7) (Message m 4) unlisted (refl, lit≤ tt) tt)))
-
 -- a kind as code finds it: k, where micro is m
-pub found : (t : Time) (s m : ℕ) (k : Kind) → m ≡ microOf t → k ≡ kind16 m s → (k ≡ kind (bgp4mp t) s) × Sane (microOf t) k
-found t s m k e h = let d : k ≡ kind16 (microOf t) s = h ∙ ap (λ (x : ℕ). kind16 x s) e in (d ∙ kind-is t s, rw d (sane (microOf t) s))
+pub record Found (t : Time) (s : ℕ) (k : Kind) : Type 0 where
+  pub page : k ≡ kind (bgp4mp t) s
+  pub sane : Sane k
+  pub stamps : Stamps (microOf t) k
 
-pub not-change : (k : Kind) → OneOf (0 ∷ 1 ∷ 2 ∷ 3 ∷ 4 ∷ 5 ∷ 7 ∷ []) (tagOf declared.the-type k) → eqb (writer k) changes ≡ false
-not-change (Refused n p) h = refl
-not-change (Unread micro) h = ne-eqb (7 + micro) 5 (λ e. omega arith)
-not-change (TableDump size) h = refl
-not-change PeerTable h = refl
-not-change (Rib bits) h = refl
-not-change RibGeneric h = refl
-not-change (Change micro w) h = absurd (miss (0 ∷ 1 ∷ 2 ∷ 3 ∷ 4 ∷ 5 ∷ 7 ∷ []) 6 tt h)
-not-change (Message micro w) h = refl
-
-pub not-message : (k : Kind) → OneOf (0 ∷ 1 ∷ 2 ∷ 3 ∷ 4 ∷ 5 ∷ 6 ∷ []) (tagOf declared.the-type k) → eqb (writer k) messages ≡ false
-not-message (Refused n p) h = refl
-not-message (Unread micro) h = ne-eqb (7 + micro) 6 (λ e. omega arith)
-not-message (TableDump size) h = refl
-not-message PeerTable h = refl
-not-message (Rib bits) h = refl
-not-message RibGeneric h = refl
-not-message (Change micro w) h = refl
-not-message (Message micro w) h = absurd (miss (0 ∷ 1 ∷ 2 ∷ 3 ∷ 4 ∷ 5 ∷ 6 ∷ []) 7 tt h)
+pub found : (t : Time) (s m : ℕ) (k : Kind) → m ≡ microOf t → k ≡ kind16 m s → Found t s k
+found t s m k e h =
+    let d : k ≡ kind16 (microOf t) s = h ∙ ap (λ (x : ℕ). kind16 x s) e in
+    record { page = d ∙ kind-is t s; sane = rw d (sane16 (microOf t) s (micro-small t)); stamps = rw d (stamps16 (microOf t) s) }
 
 pub no-width : (k : Kind) → OneOf (0 ∷ 1 ∷ 2 ∷ 3 ∷ 4 ∷ 5 ∷ []) (tagOf declared.the-type k) → 0 ≡ asOctets k
 no-width (Refused n p) h = refl
@@ -103,18 +63,6 @@ no-width (Rib bits) h = refl
 no-width RibGeneric h = refl
 no-width (Change micro w) h = absurd (miss (0 ∷ 1 ∷ 2 ∷ 3 ∷ 4 ∷ 5 ∷ []) 6 tt h)
 no-width (Message micro w) h = absurd (miss (0 ∷ 1 ∷ 2 ∷ 3 ∷ 4 ∷ 5 ∷ []) 7 tt h)
-
--- ---- their fields
-
-pub change-body : (t : Time) (m w y : ℕ) (k : Kind) (vs : ℕ → List Value) → Sane (microOf t) k → k ≡ Change m w → y ≡ refusal (stamped (microOf t) (session w stateChange)) (micros t ++ vs w)
-    → y ≡ bodyRefusal (plan noTable (layoutOf 4096 (choose (eqb (writer k) changes) k unlisted))) (micros t ++ vs (asOctets k)) nothing
-unfolding choose layoutOf plan bodyRefusal
-change-body t m w y k vs q e h = let s = rw e at q in h ∙ rw (e, s .0)
-
-pub message-body : (t : Time) (m w y : ℕ) (k : Kind) (vs : ℕ → List Value) → Sane (microOf t) k → k ≡ Message m w → y ≡ refusal (stamped (microOf t) (session w (page.message 4096))) (micros t ++ vs w)
-    → y ≡ bodyRefusal (plan noTable (layoutOf 4096 (choose (eqb (writer k) messages) k unlisted))) (micros t ++ vs (asOctets k)) nothing
-unfolding choose layoutOf plan bodyRefusal
-message-body t m w y k vs q e h = let s = rw e at q in h ∙ rw (e, s .0)
 
 -- ---- their octets
 

@@ -1,70 +1,23 @@
--- The kinds of type 13, the table that is told, and RIB messages as the writers lay them. Assumes nothing.
-use mathlib.Core.Path.{_≡_, refl, ap, _∙_}
-use mathlib.Core.Bool.{Bool, true, false}
+-- The table that is told, and RIB messages as the writers lay them. Assumes nothing.
+use mathlib.Core.Path.{_≡_, ap, _∙_}
 use mathlib.Core.List.{List, [], _∷_, _++_, append-assoc, append-nil}
 use Prim.Native.Nat.{ℕ, _+_, _≤_, _<_}
 use native.Mathlib.Omega.{arith}
-use lib.Dec.{eqb}
 use lib.ListN.{length, length-append, length-replicate}
-use borrow.Author.Tests.{ne-eqb}
-use types.Run.{OneOf, miss}
-use denote.Enum.Declared.{tagOf}
 use Rattle.form.specs.Octets.{toBe}
 use Rattle.form.specs.Fmt.{Fmt, join}
 use Rattle.form.specs.Body.{many}
 use Rattle.form.specs.Put.{Value, digits, bytes, Tail, items, Given, lay, tailed, refusal, itemsRefusal, bodyRefusal, message}
 use Rattle.form.specs.Shape.{entries, plan}
-use Rattle.form.specs.Words.{choose, within}
 use Rattle.form.proofs.Octets.{length-toBe}
 use Rattle.copy.specs.Over.{over}
 use Rattle.copy.proofs.Laws.{more}
-use Rattle.page.specs.Layout.{kind13, unlisted}
 use Rattle.page.specs.Rib.{entryRest, entry}
-use Rattle.page.specs.declared.Kind.{Kind}
-use Rattle.page.specs.declared.Kind.the-variants.{Refused, Unread, TableDump, PeerTable, Rib, RibGeneric, Change, Message}
-use Rattle.page.proofs.Kind.{the-type}
 use Rattle.shown.specs.Table.{tableOf}
 use Rattle.shown.specs.declared.Table.{Table}
 use Rattle.shown.specs.declared.Table.the-variants.{Absent, Holds}
-use Rattle.writing.specs.Only.{writer, ribs}
 use Rattle.writing.specs.Givens.{ribGiven, ribGenericGiven}
 use Rattle.writing.proofs.Turns.{front-stops, front-passes}
-
--- any kind but that of subtypes 2 to 5
-pub no-rib : (k : Kind) → OneOf (0 ∷ 1 ∷ 2 ∷ 3 ∷ 5 ∷ 6 ∷ 7 ∷ []) (tagOf the-type k) → eqb (writer k) ribs ≡ false
-no-rib (Refused n p) h = refl
-no-rib (Unread m) h = ne-eqb (7 + m) 3 (λ e. omega arith)
-no-rib (TableDump s) h = refl
-no-rib PeerTable h = refl
-no-rib (Rib b) h = absurd (miss (0 ∷ 1 ∷ 2 ∷ 3 ∷ 5 ∷ 6 ∷ 7 ∷ []) 4 tt h)
-no-rib RibGeneric h = refl
-no-rib (Change m w) h = refl
-no-rib (Message m w) h = refl
-
-abbrev Narrow : Kind → Type 0
-Narrow (Refused n p) = Unit
-Narrow (Unread m) = Unit
-Narrow (TableDump s) = Unit
-Narrow PeerTable = Unit
-Narrow (Rib b) = b ≤ 128
-Narrow RibGeneric = Unit
-Narrow (Change m w) = Unit
-Narrow (Message m w) = Unit
-
-narrow : (y : ℕ) → Narrow (kind13 y)
-unfolding kind13 choose
-narrow y = go (eqb y 1) (within 2 y 3) (within 4 y 5) (eqb y 6)
-  where
-    go : (t u v w : Bool) → Narrow (choose t PeerTable (choose u (Rib 32) (choose v (Rib 128) (choose w RibGeneric unlisted))))
-    go true u v w = tt
-    go false true v w = omega arith
-    go false false true w = omega arith
-    go false false false true = tt
-    go false false false false = tt
-
--- a prefix has at most 128 bits
-pub rib-bits : (y b : ℕ) → kind13 y ≡ Rib b → b ≤ 128
-rib-bits y b e = rw e at (narrow y)
 
 -- ---- the table that is told
 
