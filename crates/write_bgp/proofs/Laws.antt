@@ -30,7 +30,7 @@ use Rattle.writing.proofs.Answers.{micros-long}
 
 -- ---- the kinds of types 16 and 17
 
-pub kind-is : (t : Time) (s : ℕ) → kind16 (microOf t) s ≡ kind (bgp4mp t) s
+kind-is : (t : Time) (s : ℕ) → kind16 (microOf t) s ≡ kind (bgp4mp t) s
 unfolding kind choose
 kind-is (Seconds x) s = refl
 kind-is (Micro x u) s = refl

@@ -1,7 +1,7 @@
 -- `write_bgp::write_change` meets its contract: header, microseconds, session, states. Assumes nothing.
 use mathlib.Core.Path.{_≡_, refl, sym, ap, _∙_}
 use mathlib.Core.List.{List, _++_}
-use Prim.Native.Nat.{ℕ, _+_, _*_, _^_, _≤_, _<_}
+use Prim.Native.Nat.{ℕ, _+_, _^_, _≤_, _<_}
 use native.Mathlib.Omega.{arith}
 use denote.Ref.{now}
 use lib.ListN.{length}
@@ -15,7 +15,7 @@ use Rattle.writing.specs.Times.{microOf, micros}
 use Rattle.writing.specs.Only.{onlySub, changes}
 use Rattle.writing.specs.Givens.{changeGiven}
 use Rattle.writing.specs.Verdict.{capped}
-use Rattle.writing.proofs.Sums.{capped-more}
+use Rattle.writing.proofs.Sums.{summed}
 use Rattle.writing.proofs.Answers.{refuses, Goes, goes, done, micros-long}
 use Rattle.write_bgp.proofs.Laws.{micro-small, opening, opening-long, change-octets, change-long, three-more}
 use borrow.Author.Needs.{needs}
@@ -58,8 +58,7 @@ sized c =
     let m = c .before .before .micro .ensures in
     let w = c .before .before .before .width-of .ensures .0 in
     let l = change-long (a .time) (a .subtype) (a .peer) (a .local) (a .interface) (a .family) (now (a .theirs)) (now (a .ours)) (a .old) (a .new) in
-    let n : ℕ = c .before .before .micro .result + 2 * c .before .before .before .width-of .result + 8 + length (now (a .theirs)) in
-    c .add2 .ensures ∙ ap (λ (x : ℕ). capped (x + length (now (a .ours)))) (c .before .add .ensures) ∙ capped-more n (length (now (a .ours))) ∙ ap capped (omega arith)
+    summed _ _ _ _ (c .before .add .ensures) (c .add2 .ensures) ∙ ap capped (omega arith)
 
 verdict-requires : tie.Need-verdict-requires
 verdict-requires c κs = search needs
@@ -76,7 +75,7 @@ returns c =
 
 -- the record goes into the buffer
 fine : (c : tie.After-enum-told) → Goes (onlySub changes 4096) noTable (given (c .before .before .before .before .before .before .before .before .before .before .before)) (now (c .before .before .before .before .before .before .before .before .before .before .before .args .out)) (c .before .before .before .add2 .result) (c .before .before .verdict .result)
-fine c = goes _ _ _ _ _ _ _ _ _ (c .before .before .before .before .before .before .before .change-refusal .ensures) (sized (c .before .before .before)) refl (c .before .before .verdict .ensures) (c .enum-told .given .1)
+fine c = goes _ _ _ _ _ _ _ _ (c .before .before .before .before .before .before .before .change-refusal .ensures) (sized (c .before .before .before)) refl (c .before .before .verdict .ensures) _ (c .enum-told .given .1)
 
 space : (c : tie.After-enum-told) → 12 + (microOf (c .before .before .before .before .before .before .before .before .before .before .before .args .time) + (c .before .before .before .before .before .before .width-of .result + (c .before .before .before .before .before .before .width-of .result + (8 + (length (now (c .before .before .before .before .before .before .before .before .before .before .before .args .theirs)) + length (now (c .before .before .before .before .before .before .before .before .before .before .before .args .ours))))))) ≤ length (now (c .before .before .before .before .before .before .before .before .before .before .before .args .out))
 space c =

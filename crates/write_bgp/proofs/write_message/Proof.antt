@@ -1,7 +1,7 @@
 -- `write_bgp::write_message` meets its contract: header, microseconds, session, BGP message. Assumes nothing.
 use mathlib.Core.Path.{_≡_, refl, sym, ap, _∙_}
 use mathlib.Core.List.{List, _++_}
-use Prim.Native.Nat.{ℕ, _+_, _*_, _≤_}
+use Prim.Native.Nat.{ℕ, _+_, _≤_}
 use native.Mathlib.Omega.{arith}
 use denote.Ref.{now}
 use lib.ListN.{length}
@@ -13,7 +13,7 @@ use Rattle.writing.specs.Times.{microOf, micros}
 use Rattle.writing.specs.Only.{onlySub, messages}
 use Rattle.writing.specs.Givens.{messageGiven}
 use Rattle.writing.specs.Verdict.{capped}
-use Rattle.writing.proofs.Sums.{capped-more}
+use Rattle.writing.proofs.Sums.{summed}
 use Rattle.writing.proofs.Answers.{refuses, Goes, goes, done, micros-long}
 use Rattle.write_bgp.proofs.Laws.{micro-small, opening, opening-long, message-octets, message-long, two-more}
 use borrow.Author.Needs.{needs}
@@ -59,9 +59,7 @@ sized c =
     let m = c .before .before .before .micro .ensures in
     let w = c .before .before .before .before .width-of .ensures .0 in
     let l = message-long (a .time) (a .subtype) (a .peer) (a .local) (a .interface) (a .family) (now (a .theirs)) (now (a .ours)) (now (a .message)) in
-    let n : ℕ = c .before .before .before .micro .result + 2 * c .before .before .before .before .width-of .result + 4 + length (now (a .theirs)) in
-    let x : c .before .add2 .result ≡ capped (n + length (now (a .ours))) = c .before .add2 .ensures ∙ ap (λ (x : ℕ). capped (x + length (now (a .ours)))) (c .before .before .add .ensures) ∙ capped-more n (length (now (a .ours))) in
-    c .add3 .ensures ∙ ap (λ (x : ℕ). capped (x + length (now (a .message)))) x ∙ capped-more (n + length (now (a .ours))) (length (now (a .message))) ∙ ap capped (omega arith)
+    summed _ _ _ _ (summed _ _ _ _ (c .before .before .add .ensures) (c .before .add2 .ensures)) (c .add3 .ensures) ∙ ap capped (omega arith)
 
 verdict-requires : tie.Need-verdict-requires
 verdict-requires c κs = search needs
@@ -78,7 +76,7 @@ returns c =
 
 -- the record goes into the buffer
 fine : (c : tie.After-enum-told) → Goes (onlySub messages 4096) noTable (given (c .before .before .before .before .before .before .before .before .before .before .before .before .before)) (now (c .before .before .before .before .before .before .before .before .before .before .before .before .before .args .out)) (c .before .before .before .add3 .result) (c .before .before .verdict .result)
-fine c = goes _ _ _ _ _ _ _ _ _ (c .before .before .before .before .before .before .before .before .bgp-refusal .ensures) (sized (c .before .before .before)) refl (c .before .before .verdict .ensures) (c .enum-told .given .1)
+fine c = goes _ _ _ _ _ _ _ _ (c .before .before .before .before .before .before .before .before .bgp-refusal .ensures) (sized (c .before .before .before)) refl (c .before .before .verdict .ensures) _ (c .enum-told .given .1)
 
 space : (c : tie.After-enum-told) → 12 + (microOf (c .before .before .before .before .before .before .before .before .before .before .before .before .before .args .time) + (c .before .before .before .before .before .before .before .width-of .result + (c .before .before .before .before .before .before .before .width-of .result + (4 + (length (now (c .before .before .before .before .before .before .before .before .before .before .before .before .before .args .theirs)) + (length (now (c .before .before .before .before .before .before .before .before .before .before .before .before .before .args .ours)) + length (now (c .before .before .before .before .before .before .before .before .before .before .before .before .before .args .message)))))))) ≤ length (now (c .before .before .before .before .before .before .before .before .before .before .before .before .before .args .out))
 space c =

@@ -49,8 +49,11 @@ returns-3 : tie.Need-returns-3
 unfolding fieldsRefusal
 returns-3 c =
     let m : ℕ = microOf (c .before .before .before .before .before .before .before .before .args .time) in
-    sym (rw (stamp-fits (c .before .before .before .before), type-fits (c .before .before),
-    not-unread m _ _ (c .before .kind-of .ensures) (not-own (0 ∷ 2 ∷ 3 ∷ 4 ∷ 5 ∷ 6 ∷ 7 ∷ []) _ 1 (c .before .kind-of .result) (unread-tag m) tt (c .match .keys2))))
+    sym (rw (
+      stamp-fits (c .before .before .before .before),
+      type-fits (c .before .before),
+      not-unread m _ _ (c .before .kind-of .ensures) (not-own (0 ∷ 2 ∷ 3 ∷ 4 ∷ 5 ∷ 6 ∷ 7 ∷ []) _ 1 (c .before .kind-of .result) (unread-tag m) tt (c .match .keys2)),
+    ))
 
 micro-requires : tie.Need-micro-requires
 micro-requires c κs = search needs
@@ -58,8 +61,11 @@ micro-requires c κs = search needs
 returns-4 : tie.Need-returns-4
 unfolding fieldsRefusal
 returns-4 c =
-    sym (rw (stamp-fits (c .before .before .before .before .before .before .before .before), type-fits (c .before .before .before .before .before .before),
-    not-unread _ _ _ (c .before .before .before .before .before .kind-of .ensures) (other-micro _ _ (c .before .before .before .before .before .kind-of .result) (c .before .before .before .n .given .1) (λ e. c .if3 .taken (e ∙ sym (c .before .micro .ensures))))))
+    sym (rw (
+      stamp-fits (c .before .before .before .before .before .before .before .before),
+      type-fits (c .before .before .before .before .before .before),
+      not-unread _ _ _ (c .before .before .before .before .before .kind-of .ensures) (other-micro _ _ (c .before .before .before .before .before .kind-of .result) (c .before .before .before .n .given .1) (λ e. c .if3 .taken (e ∙ sym (c .before .micro .ensures)))),
+    ))
 
 own : (c : tie.Else3) → onlyType (unreads (microOf (c .before .before .before .before .before .before .before .before .before .before .before .before .args .time))) 4096 (c .before .before .before .before .before .before .before .before .before .before .before .before .args .ty) (c .before .before .before .before .before .before .before .before .before .before .before .before .args .subtype) ≡ layoutOf 4096 (Unread (microOf (c .before .before .before .before .before .before .before .before .before .before .before .before .args .time)))
 own c = is-unread _ _ _ _ (c .before .before .before .before .before .kind-of .ensures) (c .before .before .before .n .given .1) (c .if3 .left ∙ c .before .micro .ensures)
