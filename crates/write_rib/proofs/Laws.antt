@@ -17,6 +17,7 @@ use Rattle.shown.specs.Table.{tableOf}
 use Rattle.shown.specs.declared.Table.{Table}
 use Rattle.shown.specs.declared.Table.the-variants.{Absent, Holds}
 use Rattle.writing.specs.Givens.{ribGiven, ribGenericGiven}
+use Rattle.writing.proofs.Laid.{none, number, octets}
 use Rattle.writing.proofs.Turns.{front-stops, front-passes}
 
 -- ---- the table that is told
@@ -69,14 +70,10 @@ module _ (t sequence family safi bits : ℕ) (prefix : List ℕ) (count : ℕ) (
   pub generic-laid : (l l1 l2 l3 l4 : List ℕ) → l1 ≡ over l 12 (toBe 4 sequence) → l2 ≡ over l1 16 (toBe 2 family) → l3 ≡ over l2 18 (toBe 1 safi)
       → l4 ≡ over l3 19 (routes bits prefix count raw) → 12 + length (message generic) ≤ length l → l4 ≡ over l 12 (message generic)
   generic-laid l l1 l2 l3 l4 e1 e2 e3 e4 h =
-      let s : List ℕ = toBe 4 sequence in
-      let f : List ℕ = toBe 2 family in
-      let i : List ℕ = toBe 1 safi in
       let d = generic-length in
       let k = routes-length bits prefix count raw in
-      let b : 22 + length prefix + length raw ≤ length l = omega arith in
-      let n : length ((s ++ f) ++ i) ≡ 7 = simp (length-append, length-toBe) in
-      let x2 = more l s f l1 l2 12 16 e1 e2 (simp length-toBe) (simp length-toBe (omega arith)) in
-      let x3 = more l (s ++ f) i l2 l3 12 18 x2 e3 (simp (length-append, length-toBe)) (simp (length-append, length-toBe) (omega arith)) in
-      let x4 = more l ((s ++ f) ++ i) (routes bits prefix count raw) l3 l4 12 19 x3 e4 (omega arith) (omega arith) in
-      x4 ∙ ap (over l 12) (simp (append-assoc, append-nil))
+      let x1 = number (none l 12 (omega arith)) 4 sequence e1 (omega arith) (omega arith) in
+      let x2 = number x1 2 family e2 (omega arith) (omega arith) in
+      let x3 = number x2 1 safi e3 (omega arith) (omega arith) in
+      let x4 = octets x3 (routes bits prefix count raw) e4 (omega arith) (omega arith) in
+      x4 .is ∙ ap (over l 12) (simp (append-assoc, append-nil))
