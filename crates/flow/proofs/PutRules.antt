@@ -1,15 +1,15 @@
 -- The rules by which `search put-flow` follows a writer's checks through a page's format: one for each way out of a field. Assumes nothing.
-use mathlib.Core.Path.{_≡_, refl, sym, ap, _∙_}
+use mathlib.Core.Path.{_≡_, refl, sym, _∙_}
 use mathlib.Core.List.{List, [], _∷_}
 use mathlib.Core.Bool.{Bool, true, false, cond}
-use Prim.Native.Nat.{ℕ, zero, suc, _+_, _^_, _<_, _≤_}
+use Prim.Native.Nat.{ℕ, zero, suc, _^_, _<_, _≤_}
 use native.Mathlib.Omega.{arith}
-use borrow.Author.Tests.{lt-ltb, le-ltb, le-leb, lt-leb, eq-eqb, ne-eqb, ltb-true, ltb-false, leb-true, leb-false}
-use lib.Dec.{ltb, leb, eqb}
+use borrow.Author.Tests.{lt-ltb, le-ltb, le-leb, lt-leb, eq-eqb, ne-eqb, ltb-true, leb-true, leb-false}
+use lib.Dec.{ltb, leb}
 use lib.ListN.{length}
 use Rattle.form.specs.Octets.{be, toBe}
 use Rattle.form.proofs.Octets.{be-toBe}
-use Rattle.form.specs.Fmt.{Fmt, end, test, field}
+use Rattle.form.specs.Fmt.{Fmt, end}
 use Rattle.form.specs.Put.{Value, digits, bytes, orElse, sized, large, misfit, refusal}
 use Rattle.form.specs.Words.{choose, num, skip, fail, checked, tested}
 use Rattle.flow.proofs.Rules.{inside, below, above}

@@ -1,12 +1,12 @@
 -- The rules by which `search flow` follows code through a page's format: one for each way out of a field and of a test.
 -- Assumes nothing.
 use mathlib.Core.Path.{_≡_, refl, sym, ap, _∙_}
-use mathlib.Core.List.{List, [], _∷_}
-use mathlib.Core.Bool.{Bool, true, false, cond, _&&_, _||_}
+use mathlib.Core.List.{List, []}
+use mathlib.Core.Bool.{Bool, true, false, cond}
 use Prim.Native.Nat.{ℕ, zero, suc, _+_, _-_, _<_, _≤_}
 use native.Mathlib.Omega.{arith}
 use borrow.Author.Tests.{lt-ltb, le-ltb, le-leb, lt-leb, eq-eqb, ne-eqb, ltb-true, ltb-false}
-use lib.Dec.{ltb, leb, eqb}
+use lib.Dec.{ltb, leb}
 use lib.ListN.{length, take, drop}
 use Rattle.form.specs.Octets.{be}
 use Rattle.form.specs.Fmt.{Fmt, end, test, field}
@@ -173,9 +173,6 @@ module _ {A : Type 0} (to : List Seen → ℕ → ℕ → A) (fault : ℕ → �
 
 -- what is placed w octets back, at d
 module _ {A : Type 0} (to : List Seen → ℕ → ℕ → A) (fault : ℕ → ℕ → A) (m : List ℕ) where
-  pub late-yes : (b : Bool) (n w i : ℕ) (f : Fmt) (y : A) → b ≡ true → y ≡ pass to fault f m i → y ≡ pass to fault (must b n w f) m i
-  late-yes b n w i f y e h = must-yes to fault m b n w i f y e h
-
   pub late-no : (b : Bool) (n w i d : ℕ) (f : Fmt) (y : A) → b ≡ false → i ≡ d + w → ltb 0 n ≡ true → y ≡ fault n d → y ≡ pass to fault (must b n w f) m i
   unfolding must
   late-no b n w i d f y e q l h =
@@ -265,6 +262,6 @@ unfolding within
 above lo v hi p = rw (lt-leb v hi p) (after (leb lo v))
 
 -- for a layout with faults placed before the field that was read last
-pub ruleset late = (late-yes, late-no, area-short, area-there, late-end)
+pub ruleset late = (must-yes, late-no, area-short, area-there, late-end)
 
 pub ruleset flow = (lies-there, num-there, num-short, skip-there, skip-short, good-part, bad-part, no-part, right, not-right, not-there, fails, ends, takes-first, takes-second, picks, passes, inside, below, above, lt-ltb, le-ltb, le-leb, lt-leb, eq-eqb, ne-eqb, arith)

@@ -1,4 +1,5 @@
 -- Every kind that a Type and a Subtype choose has widths of document 01. Assumes nothing.
+use mathlib.Core.Path.{_≡_, refl}
 use mathlib.Core.Bool.{Bool, true, false, _||_}
 use Prim.Native.Nat.{ℕ, _≤_}
 use native.Mathlib.Omega.{arith}
@@ -7,11 +8,16 @@ use Rattle.form.specs.Words.{choose, within}
 use Rattle.page.specs.Layout.{kind12, kind13, kind16, kind}
 use Rattle.page.specs.Sane.{Sane}
 use Rattle.page.specs.declared.Kind.{Kind}
+use Rattle.page.specs.declared.Kind.the-variants.{Refused, Unread, TableDump, PeerTable, Rib, RibGeneric, Change, Message}
+
+module _ (P : Kind → Type 0) where
+  each : (b : Bool) (x y : Kind) → P x → P y → P (choose b x y)
+  unfolding choose
+  each true x y p q = p
+  each false x y p q = q
 
 either : (b : Bool) (x y : Kind) → Sane x → Sane y → Sane (choose b x y)
-unfolding choose
-either true x y p q = p
-either false x y p q = q
+either = each Sane
 
 pub sane12 : (sub : ℕ) → Sane (kind12 sub)
 unfolding kind12
@@ -27,6 +33,23 @@ sane16 micro sub h =
     let two : (micro ≤ 4) × (2 ≤ 4) = (h, omega arith) in
     let four : (micro ≤ 4) × (4 ≤ 4) = (h, omega arith) in
     either (eqb sub 0) _ _ two (either (eqb sub 5) _ _ four (either (eqb sub 1 || eqb sub 6) _ _ two (either (eqb sub 4 || eqb sub 7) _ _ four tt)))
+
+-- a kind of types 16 and 17 has the microseconds m
+abbrev pub Stamps : (m : ℕ) → Kind → Type 0
+Stamps m (Refused n p) = Unit
+Stamps m (Unread micro) = Unit
+Stamps m (TableDump size) = Unit
+Stamps m PeerTable = Unit
+Stamps m (Rib bits) = Unit
+Stamps m RibGeneric = Unit
+Stamps m (Change micro w) = micro ≡ m
+Stamps m (Message micro w) = micro ≡ m
+
+pub stamps16 : (m sub : ℕ) → Stamps m (kind16 m sub)
+unfolding kind16
+stamps16 m sub =
+    let either = each (Stamps m) in
+    either (eqb sub 0) _ _ refl (either (eqb sub 5) _ _ refl (either (eqb sub 1 || eqb sub 6) _ _ refl (either (eqb sub 4 || eqb sub 7) _ _ refl tt)))
 
 pub sane : (type sub : ℕ) → Sane (kind type sub)
 unfolding kind

@@ -1,14 +1,12 @@
 -- What the reader says of a BGP message is the number with which a writer refuses it. Assumes nothing.
-use mathlib.Core.Path.{_≡_, refl, sym, _∙_}
+use mathlib.Core.Path.{_≡_, refl, sym, ap, _∙_}
 use mathlib.Core.Bool.{Bool, true, false, cond}
-use mathlib.Core.List.{List, [], _∷_}
+use mathlib.Core.List.{List}
 use Prim.Native.Nat.{ℕ, _+_, _-_, _≤_, _<_}
 use native.Mathlib.Omega.{arith}
 use lib.Dec.{ltb}
 use lib.ListN.{length, take, drop, length-take, length-drop}
 use borrow.Author.Tests.{lt-ltb, le-ltb, ltb-true, ltb-false}
-use types.Run.{OneOf, miss}
-use denote.Enum.Declared.{tagOf}
 use Rattle.form.specs.Octets.{be}
 use Rattle.form.specs.Fmt.{end, test}
 use Rattle.form.specs.Pass.{Seen, note, pass, whole}
@@ -20,37 +18,13 @@ use Rattle.shown.specs.Told.{told}
 use Rattle.shown.specs.declared.Header.{Header}
 use Rattle.shown.specs.declared.Session.{Session}
 use Rattle.shown.specs.declared.Shown.{Shown}
-use Rattle.shown.specs.declared.Shown.the-variants.{Nothing, Refused, Unread, TableDump, PeerTable, Rib, RibGeneric, Change, Message}
-use Rattle.shown.proofs.Shown as declared
+use Rattle.shown.specs.declared.Shown.the-variants.{Refused}
 use Rattle.writing.specs.Givens.{bgpValues}
+use Rattle.writing.proofs.Items.{refusedWith}
 
 -- n is the number of the refusal, or 0
-unfoldable pub Judged : ℕ → Shown → Type 0
-Judged n Nothing = 0 ≡ n
-Judged n (Refused k p) = k ≡ n
-Judged n (Unread h p) = 0 ≡ n
-Judged n (TableDump h r) = 0 ≡ n
-Judged n (PeerTable h p) = 0 ≡ n
-Judged n (Rib h r) = 0 ≡ n
-Judged n (RibGeneric h f i r) = 0 ≡ n
-Judged n (Change h s o w) = 0 ≡ n
-Judged n (Message h s p k) = 0 ≡ n
-
-pub is-refused : (n k p : ℕ) (x : Shown) → x ≡ Refused k p → Judged n x → k ≡ n
-unfolding Judged
-is-refused n k p x e j = rw e at j
-
-pub not-refused : (n : ℕ) (x : Shown) → OneOf (0 ∷ 2 ∷ 3 ∷ 4 ∷ 5 ∷ 6 ∷ 7 ∷ 8 ∷ []) (tagOf declared.the-type x) → Judged n x → 0 ≡ n
-unfolding Judged
-not-refused n Nothing h j = j
-not-refused n (Refused k p) h j = absurd (miss (0 ∷ 2 ∷ 3 ∷ 4 ∷ 5 ∷ 6 ∷ 7 ∷ 8 ∷ []) 1 tt h)
-not-refused n (Unread a p) h j = j
-not-refused n (TableDump a r) h j = j
-not-refused n (PeerTable a p) h j = j
-not-refused n (Rib a r) h j = j
-not-refused n (RibGeneric a f i r) h j = j
-not-refused n (Change a s o w) h j = j
-not-refused n (Message a s p k) h j = j
+unfoldable Judged : ℕ → Shown → Type 0
+Judged n x = refusedWith x ≡ n
 
 -- ---- the reader's number, by the message's length and its length field
 
@@ -146,5 +120,6 @@ writes b = go (ltb (length b) 16) (ltb (length b) 18) (ltb (length b) 19) (withi
         ending (length b) (n - 19) h
         ∙ sym (rw (there 16 0 b (ltb-false (length b) 16 p), there 2 16 b (ltb-false (length b) 18 q), there 1 18 b h, length-drop))
 
-pub judged : (h : Header) (s : Session) (b : List ℕ) (x : Shown) → x ≡ whole (told h s) Refused (message 4096) b 0 → Judged (refusal (message 4096) (bgpValues b)) x
-judged h s b x e = rw (e, sym (writes b)) (reader h s b)
+pub judged : (h : Header) (s : Session) (b : List ℕ) (x : Shown) → x ≡ whole (told h s) Refused (message 4096) b 0 → refusedWith x ≡ refusal (message 4096) (bgpValues b)
+unfolding Judged
+judged h s b x e = ap refusedWith e ∙ reader h s b ∙ writes b

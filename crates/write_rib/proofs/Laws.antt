@@ -1,70 +1,24 @@
--- The kinds of type 13, the table that is told, and RIB messages as the writers lay them. Assumes nothing.
-use mathlib.Core.Path.{_≡_, refl, ap, _∙_}
-use mathlib.Core.Bool.{Bool, true, false}
+-- The table that is told, and RIB messages as the writers lay them. Assumes nothing.
+use mathlib.Core.Path.{_≡_, ap, _∙_}
 use mathlib.Core.List.{List, [], _∷_, _++_, append-assoc, append-nil}
 use Prim.Native.Nat.{ℕ, _+_, _≤_, _<_}
 use native.Mathlib.Omega.{arith}
-use lib.Dec.{eqb}
 use lib.ListN.{length, length-append, length-replicate}
-use borrow.Author.Tests.{ne-eqb}
-use types.Run.{OneOf, miss}
-use denote.Enum.Declared.{tagOf}
 use Rattle.form.specs.Octets.{toBe}
 use Rattle.form.specs.Fmt.{Fmt, join}
 use Rattle.form.specs.Body.{many}
 use Rattle.form.specs.Put.{Value, digits, bytes, Tail, items, Given, lay, tailed, refusal, itemsRefusal, bodyRefusal, message}
 use Rattle.form.specs.Shape.{entries, plan}
-use Rattle.form.specs.Words.{choose, within}
 use Rattle.form.proofs.Octets.{length-toBe}
 use Rattle.copy.specs.Over.{over}
 use Rattle.copy.proofs.Laws.{more}
-use Rattle.page.specs.Layout.{kind13, unlisted}
 use Rattle.page.specs.Rib.{entryRest, entry}
-use Rattle.page.specs.declared.Kind.{Kind}
-use Rattle.page.specs.declared.Kind.the-variants.{Refused, Unread, TableDump, PeerTable, Rib, RibGeneric, Change, Message}
-use Rattle.page.proofs.Kind.{the-type}
 use Rattle.shown.specs.Table.{tableOf}
 use Rattle.shown.specs.declared.Table.{Table}
 use Rattle.shown.specs.declared.Table.the-variants.{Absent, Holds}
-use Rattle.writing.specs.Only.{writer, ribs}
 use Rattle.writing.specs.Givens.{ribGiven, ribGenericGiven}
+use Rattle.writing.proofs.Laid.{none, number, octets}
 use Rattle.writing.proofs.Turns.{front-stops, front-passes}
-
--- any kind but that of subtypes 2 to 5
-pub no-rib : (k : Kind) → OneOf (0 ∷ 1 ∷ 2 ∷ 3 ∷ 5 ∷ 6 ∷ 7 ∷ []) (tagOf the-type k) → eqb (writer k) ribs ≡ false
-no-rib (Refused n p) h = refl
-no-rib (Unread m) h = ne-eqb (7 + m) 3 (λ e. omega arith)
-no-rib (TableDump s) h = refl
-no-rib PeerTable h = refl
-no-rib (Rib b) h = absurd (miss (0 ∷ 1 ∷ 2 ∷ 3 ∷ 5 ∷ 6 ∷ 7 ∷ []) 4 tt h)
-no-rib RibGeneric h = refl
-no-rib (Change m w) h = refl
-no-rib (Message m w) h = refl
-
-abbrev Narrow : Kind → Type 0
-Narrow (Refused n p) = Unit
-Narrow (Unread m) = Unit
-Narrow (TableDump s) = Unit
-Narrow PeerTable = Unit
-Narrow (Rib b) = b ≤ 128
-Narrow RibGeneric = Unit
-Narrow (Change m w) = Unit
-Narrow (Message m w) = Unit
-
-narrow : (y : ℕ) → Narrow (kind13 y)
-unfolding kind13 choose
-narrow y = go (eqb y 1) (within 2 y 3) (within 4 y 5) (eqb y 6)
-  where
-    go : (t u v w : Bool) → Narrow (choose t PeerTable (choose u (Rib 32) (choose v (Rib 128) (choose w RibGeneric unlisted))))
-    go true u v w = tt
-    go false true v w = omega arith
-    go false false true w = omega arith
-    go false false false true = tt
-    go false false false false = tt
-
--- a prefix has at most 128 bits
-pub rib-bits : (y b : ℕ) → kind13 y ≡ Rib b → b ≤ 128
-rib-bits y b e = rw e at (narrow y)
 
 -- ---- the table that is told
 
@@ -116,14 +70,10 @@ module _ (t sequence family safi bits : ℕ) (prefix : List ℕ) (count : ℕ) (
   pub generic-laid : (l l1 l2 l3 l4 : List ℕ) → l1 ≡ over l 12 (toBe 4 sequence) → l2 ≡ over l1 16 (toBe 2 family) → l3 ≡ over l2 18 (toBe 1 safi)
       → l4 ≡ over l3 19 (routes bits prefix count raw) → 12 + length (message generic) ≤ length l → l4 ≡ over l 12 (message generic)
   generic-laid l l1 l2 l3 l4 e1 e2 e3 e4 h =
-      let s : List ℕ = toBe 4 sequence in
-      let f : List ℕ = toBe 2 family in
-      let i : List ℕ = toBe 1 safi in
       let d = generic-length in
       let k = routes-length bits prefix count raw in
-      let b : 22 + length prefix + length raw ≤ length l = omega arith in
-      let n : length ((s ++ f) ++ i) ≡ 7 = simp (length-append, length-toBe) in
-      let x2 = more l s f l1 l2 12 16 e1 e2 (simp length-toBe) (simp length-toBe (omega arith)) in
-      let x3 = more l (s ++ f) i l2 l3 12 18 x2 e3 (simp (length-append, length-toBe)) (simp (length-append, length-toBe) (omega arith)) in
-      let x4 = more l ((s ++ f) ++ i) (routes bits prefix count raw) l3 l4 12 19 x3 e4 (omega arith) (omega arith) in
-      x4 ∙ ap (over l 12) (simp (append-assoc, append-nil))
+      let x1 = number (none l 12 (omega arith)) 4 sequence e1 (omega arith) (omega arith) in
+      let x2 = number x1 2 family e2 (omega arith) (omega arith) in
+      let x3 = number x2 1 safi e3 (omega arith) (omega arith) in
+      let x4 = octets x3 (routes bits prefix count raw) e4 (omega arith) (omega arith) in
+      x4 .is ∙ ap (over l 12) (simp (append-assoc, append-nil))

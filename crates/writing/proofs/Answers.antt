@@ -1,12 +1,12 @@
 -- The verdict by numbers is what a writer answers and leaves. Assumes nothing.
-use mathlib.Core.Path.{_≡_, refl, sym, ap, _∙_}
-use mathlib.Core.Bool.{Bool, true, false, cond}
-use mathlib.Core.List.{List, [], _∷_, _++_, append-assoc}
+use mathlib.Core.Path.{_≡_, refl, sym, _∙_}
+use mathlib.Core.Bool.{Bool, true, false}
+use mathlib.Core.List.{List, _++_, append-assoc}
 use Prim.Native.Nat.{ℕ, zero, suc, _+_, _^_, _≤_, _<_}
 use native.Mathlib.Omega.{arith}
 use native.Mathlib.Nat.{zero-add}
 use lib.Dec.{ltb}
-use lib.ListN.{length, take, drop, length-append}
+use lib.ListN.{length, drop, length-append}
 use borrow.Author.Tests.{lt-ltb, le-ltb, ltb-true, ltb-false}
 use Rattle.form.specs.Octets.{toBe}
 use Rattle.form.proofs.Octets.{length-toBe}
@@ -32,7 +32,8 @@ length-octets g = simp (length-append, length-toBe) (omega arith)
 abbrev Says : (n : ℕ) (m xs out : List ℕ) → Written → Type 0
 Says n m xs out (Refused k) = (Refused k ≡ written (orElse n (large 4 (length m))) xs out) × (out ≡ holds (orElse n (large 4 (length m))) xs out)
 Says n m xs out (Octets k) =
-    (Octets k ≡ written (orElse n (large 4 (length m))) xs out) × (xs ++ drop (length xs) out ≡ holds (orElse n (large 4 (length m))) xs out) × (12 + length m ≤ length out)
+    (Octets k ≡ written (orElse n (large 4 (length m))) xs out) × (xs ++ drop (length xs) out ≡ holds (orElse n (large 4 (length m))) xs out)
+    × (12 + length m ≤ length out) × (capped (length m) ≡ length m)
 
 says : (n : ℕ) (m xs out : List ℕ) → length xs ≡ 12 + length m → Says n m xs out (verdictOf n (capped (length m)) (length out))
 unfolding verdictOf written holds choose
@@ -59,7 +60,7 @@ says zero m xs out e = go (ltb 4294967295 (capped (length m))) (ltb (length out)
         let h : length m < 256 ^ 4 = omega arith in
         let r : length xs ≤ length out = omega (arith, ltb-false (length out) (12 + capped (length m)) q) in
         let k : 12 + capped (length m) ≡ length xs = omega arith in
-        (rw (lt-ltb (length m) (256 ^ 4) h, le-ltb (length out) (length xs) r, k), rw (lt-ltb (length m) (256 ^ 4) h, le-ltb (length out) (length xs) r), omega arith)
+        (rw (lt-ltb (length m) (256 ^ 4) h, le-ltb (length out) (length xs) r, k), rw (lt-ltb (length m) (256 ^ 4) h, le-ltb (length out) (length xs) r), omega arith, sym s)
 
 -- ---- the verdict's own ways out
 
@@ -75,31 +76,33 @@ refused-not (suc n) size room x h e = absurd (omega arith)
 
 -- ---- what the writers use: n is the number for the fields, and size the message's length as it is added up
 
+-- v says that the record goes into out, with size as its Length
+pub record Goes (layout : ℕ → ℕ → Layout) (st : St) (g : Given) (out : List ℕ) (size : ℕ) (v : Written) : Type 0 where
+  pub answer : v ≡ answers layout st g out
+  pub left : octets g ++ drop (length (octets g)) out ≡ leaves layout st g out
+  pub space : 12 + length (message g) ≤ length out
+  pub exact : size ≡ length (message g)
+
 module _ (layout : ℕ → ℕ → Layout) (st : St) (g : Given) (out : List ℕ) (n size room : ℕ) (v : Written)
     (refused : n ≡ fieldsRefusal layout st g) (sized : size ≡ capped (length (message g))) (lent : room ≡ length out) (judged : v ≡ verdictOf n size room) where
   said : Says (fieldsRefusal layout st g) (message g) (octets g) out v
   said = rw (judged, refused, sized, lent) (says (fieldsRefusal layout st g) (message g) (octets g) out (length-octets g))
-
-  pub record Fine : Type 0 where
-    pub answer : v ≡ answers layout st g out
-    pub left : octets g ++ drop (length (octets g)) out ≡ leaves layout st g out
-    pub space : 12 + length (message g) ≤ length out
 
   -- a refusal: the answer is right, and so is the buffer as it was
   pub refuses : (k : ℕ) → v ≡ Refused k → (v ≡ answers layout st g out) × (out ≡ leaves layout st g out)
   unfolding recordRefusal
   refuses k e = let s = rw e at said in (e ∙ s .0, s .1)
 
-  pub writes : (k : ℕ) → v ≡ Octets k → Fine
+  pub goes : (k : ℕ) → v ≡ Octets k → Goes layout st g out size v
   unfolding recordRefusal
-  writes k e = let s = rw e at said in record { answer = e ∙ s .0; left = s .1; space = s .2 }
+  goes k e = let s = rw e at said in record { answer = e ∙ s .0; left = s .1; space = s .2; exact = sized ∙ s .3 }
 
 over-first : (xs out : List ℕ) → over out 0 xs ≡ xs ++ drop (length xs) out
 unfolding over
 over-first xs out = rw zero-add
 
 -- a header, and the message behind it, are the record's octets laid from the buffer's first
-pub laid : (g : Given) (out l k : List ℕ) (size : ℕ) → l ≡ over out 0 (toBe 4 (g .stamp) ++ (toBe 2 (g .type) ++ (toBe 2 (g .sub) ++ toBe 4 size))) → k ≡ over l 12 (message g)
+laid : (g : Given) (out l k : List ℕ) (size : ℕ) → l ≡ over out 0 (toBe 4 (g .stamp) ++ (toBe 2 (g .type) ++ (toBe 2 (g .sub) ++ toBe 4 size))) → k ≡ over l 12 (message g)
     → size ≡ length (message g) → 12 + length (message g) ≤ length out → k ≡ octets g ++ drop (length (octets g)) out
 unfolding octets
 laid g out l k size e d z h =
@@ -108,41 +111,6 @@ laid g out l k size e d z h =
     let q : k ≡ over out 0 (p ++ message g) = more out p (message g) l k 0 12 e d (omega arith) (omega arith) in
     let x : p ++ message g ≡ octets g = rw z (simp append-assoc) in
     q ∙ rw x (over-first (octets g) out)
-
--- ---- the same for a record that is written, in one
-
-abbrev Exact : (size m : ℕ) → Written → Type 0
-Exact size m (Refused k) = Unit
-Exact size m (Octets k) = size ≡ m
-
-exactly : (n m room : ℕ) → Exact (capped m) m (verdictOf n (capped m) room)
-unfolding verdictOf choose
-exactly (suc n) m room = tt
-exactly zero m room = go (ltb 4294967295 (capped m)) (ltb room (12 + capped m)) refl
-  where
-    go : (t u : Bool) → ltb 4294967295 (capped m) ≡ t → Exact (capped m) m (choose t (Refused 6) (choose u (Refused 15) (Octets (12 + capped m))))
-    go true u p = tt
-    go false true p = tt
-    go false false p =
-        let b = ltb-false 4294967295 (capped m) p in
-        let s : m ≡ capped m = cap m .same (omega arith) in
-        sym s
-
--- v says that the record goes into out, with size as its Length
-pub record Goes (layout : ℕ → ℕ → Layout) (st : St) (g : Given) (out : List ℕ) (size : ℕ) (v : Written) : Type 0 where
-  pub answer : v ≡ answers layout st g out
-  pub left : octets g ++ drop (length (octets g)) out ≡ leaves layout st g out
-  pub space : 12 + length (message g) ≤ length out
-  pub exact : size ≡ length (message g)
-
-pub goes : (layout : ℕ → ℕ → Layout) (st : St) (g : Given) (out : List ℕ) (n size room k : ℕ) (v : Written)
-    → n ≡ fieldsRefusal layout st g → size ≡ capped (length (message g)) → room ≡ length out → v ≡ verdictOf n size room → v ≡ Octets k → Goes layout st g out size v
-goes layout st g out n size room k v refused sized lent judged e =
-    let f = writes layout st g out n size room v refused sized lent judged k e in
-    let j : v ≡ verdictOf n (capped (length (message g))) room = judged ∙ ap (λ (s : ℕ). verdictOf n s room) sized in
-    let y : Exact (capped (length (message g))) (length (message g)) v = rw j (exactly n (length (message g)) room) in
-    let x = rw e at y in
-    record { answer = f .answer; left = f .left; space = f .space; exact = sized ∙ x }
 
 -- the header is laid, and then the message behind it
 pub done : (layout : ℕ → ℕ → Layout) (st : St) (g : Given) (out l k : List ℕ) (size : ℕ) (v : Written) → Goes layout st g out size v

@@ -1,5 +1,5 @@
 pub mod Sums
 pub mod Answers
-pub mod Heads
 pub mod Turns
 pub mod Items
+pub mod Laid

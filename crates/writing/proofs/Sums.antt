@@ -1,7 +1,7 @@
 -- Sums that stop at the largest number. Assumes nothing.
-use mathlib.Core.Path.{_≡_, refl, sym, ap, _∙_}
+use mathlib.Core.Path.{_≡_, refl, _∙_}
 use mathlib.Core.Bool.{Bool, true, false, cond}
-use Prim.Native.Nat.{ℕ, _+_, _-_, _^_, _≤_, _<_}
+use Prim.Native.Nat.{ℕ, _+_, _^_, _≤_, _<_}
 use native.Mathlib.Omega.{arith}
 use lib.Dec.{ltb}
 use borrow.Author.Tests.{lt-ltb, le-ltb, ltb-true, ltb-false}
@@ -28,8 +28,7 @@ cap n = go (ltb n (2 ^ 64)) refl
     go true e = record { same = λ h. refl; most = omega arith }
     go false e = let q = ltb-false n (2 ^ 64) e in record { same = λ h. omega arith; most = omega arith }
 
--- sums one after another
-pub capped-more : (a b : ℕ) → capped (capped a + b) ≡ capped (a + b)
+capped-more : (a b : ℕ) → capped (capped a + b) ≡ capped (a + b)
 unfolding capped
 capped-more a b = go (ltb a (2 ^ 64)) refl
   where
@@ -44,5 +43,6 @@ capped-more a b = go (ltb a (2 ^ 64)) refl
             turn true e = let q = ltb-true (18446744073709551615 + b) (2 ^ 64) e in omega arith
             turn false e = refl
 
+-- sums one after another
 pub summed : (a b r s : ℕ) → r ≡ capped a → s ≡ capped (r + b) → s ≡ capped (a + b)
 summed a b r s e d = d ∙ rw e (capped-more a b)

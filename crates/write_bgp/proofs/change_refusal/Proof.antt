@@ -1,18 +1,18 @@
 -- `write_bgp::change_refusal` meets its contract: the header, then the message's fields. Assumes nothing.
-use mathlib.Core.Path.{_≡_, sym, ap, _∙_}
-use mathlib.Core.List.{List}
+use mathlib.Core.Path.{_≡_, refl, sym, ap, _∙_}
+use mathlib.Core.List.{[], _∷_}
 use Prim.Native.Nat.{ℕ}
 use denote.Ref.{now}
-use lib.Dec.{eqb, lit<}
-use Rattle.form.specs.Put.{Value, Given, orElse, large}
-use Rattle.page.specs.Bgp4mp.{session, stateChange}
-use Rattle.page.specs.Layout.{kind}
-use Rattle.page.specs.declared.Kind.{Kind}
-use Rattle.writing.specs.Times.{stampOf, microOf, bgp4mp}
-use Rattle.writing.specs.Only.{writer, changes}
-use Rattle.writing.specs.Givens.{sessionValues, stateValues, changeGiven}
-use Rattle.writing.proofs.Heads.{own-typed, not-own, head-stops, head-passes}
-use Rattle.write_bgp.proofs.Laws.{Sane, type-fits, found, not-change, change-body}
+use lib.Dec.{lit<}
+use Rattle.form.specs.Put.{Given, orElse, large, bodyRefusal}
+use Rattle.form.specs.Shape.{noTable, plan}
+use Rattle.page.specs.Bgp4mp.{stateChange}
+use Rattle.page.specs.Layout.{kind, layoutOf}
+use Rattle.writing.specs.Times.{stampOf, bgp4mp}
+use Rattle.writing.specs.Only.{asOctets, changes}
+use Rattle.writing.specs.Givens.{stateValues, changeGiven}
+use Rattle.writing.proofs.Turns.{not-own, stops, others, owns}
+use Rattle.write_bgp.proofs.Laws.{type-fits, Found, found}
 use borrow.Author.Needs.{needs}
 use Rattle.write_bgp.proofs.change_refusal.Statement.{statement}
 use Rattle.write_bgp.proofs.change_refusal.Tie as tie
@@ -33,7 +33,7 @@ head : (c : tie.After-head-refusal) → c .head-refusal .result ≡ orElse (larg
 head c = c .head-refusal .ensures ∙ ap (λ (x : ℕ). orElse (large 4 x) (large 2 (c .before .before .before .before .args .subtype))) (c .before .seconds .ensures)
 
 returns : tie.Need-returns
-returns c = head-stops _ _ (given (c .before .before .before .before .before)) (type-fits (c .before .before .before .before .before .args .time)) (own-typed 4096 changes (kind (bgp4mp (c .before .before .before .before .before .args .time)) (c .before .before .before .before .before .args .subtype)) (lit< tt)) _ (head (c .before)) (search needs)
+returns c = let s = c .before .before .before .before .before in stops 4096 changes noTable (given s) _ _ (lit< tt) (type-fits (s .args .time)) refl (head (c .before)) (search needs)
 
 micro-requires : tie.Need-micro-requires
 micro-requires c κs = search needs
@@ -42,39 +42,38 @@ kind-16-requires : tie.Need-kind-16-requires
 kind-16-requires c κs = search needs
 
 -- the kind, as the page has it
-kind-found : (c : tie.After-kind-16) → (c .kind-16 .result ≡ kind (bgp4mp (c .before .before .before .before .before .before .before .args .time)) (c .before .before .before .before .before .before .before .args .subtype)) × Sane (microOf (c .before .before .before .before .before .before .before .args .time)) (c .kind-16 .result)
-kind-found c = found (c .before .before .before .before .before .before .before .args .time) (c .before .before .before .before .before .before .before .args .subtype) _ _ (c .before .micro .ensures) (c .kind-16 .ensures)
+kind-found : (c : tie.After-kind-16) → Found (c .before .before .before .before .before .before .before .args .time) (c .before .before .before .before .before .before .before .args .subtype) (c .kind-16 .result)
+kind-found c = found _ _ _ _ (c .before .micro .ensures) (c .kind-16 .ensures)
 
 enum-known-width : tie.Need-enum-known-width
 enum-known-width c = search needs
 
 returns-2 : tie.Need-returns-2
 returns-2 c =
-    let a = c .before .before .before .before .before .before .before .before .args in
-    let no = ap (λ (k : Kind). eqb (writer k) changes) (sym (kind-found (c .before) .0)) ∙ not-change (c .before .kind-16 .result) (c .match .keys2) in
-    head-passes _ _ (given (c .before .before .before .before .before .before .before .before)) (type-fits (a .time)) (own-typed 4096 changes (kind (bgp4mp (a .time)) (a .subtype)) (lit< tt)) _ (head (c .before .before .before .before)) _ (search needs)
-    (sym (not-own 4096 changes (kind (bgp4mp (a .time)) (a .subtype)) _ _ _ no))
+    let s = c .before .before .before .before .before .before .before .before in
+    others 4096 changes noTable (given s) _ _ (lit< tt) (type-fits (s .args .time)) (sym (kind-found (c .before) .page)) (head (c .before .before .before .before)) (search needs)
+    (not-own (0 ∷ 1 ∷ 2 ∷ 3 ∷ 4 ∷ 5 ∷ 7 ∷ []) changes 6 (c .before .kind-16 .result) refl tt (c .match .keys2))
 
 states-refusal-requires : tie.Need-states-refusal-requires
 states-refusal-requires c κs = search needs
 
 session-refusal-requires : tie.Need-session-refusal-requires
-session-refusal-requires c κs = let s = rw (c .before .before .width .given .1) at (kind-found (c .before .before .before .before) .1) in search needs
+session-refusal-requires c κs = let s = rw (c .before .before .width .given .1) at (kind-found (c .before .before .before .before) .sane) in search needs
 
 stamped-refusal-requires : tie.Need-stamped-refusal-requires
 stamped-refusal-requires c κs = search needs
 
 returns-3 : tie.Need-returns-3
+unfolding layoutOf plan bodyRefusal
 returns-3 c =
-    let a = c .before .before .before .before .before .before .before .before .before .before .before .before .before .args in
+    let s = c .before .before .before .before .before .before .before .before .before .before .before .before .before in
+    let a = s .args in
     let k = kind-found (c .before .before .before .before .before .before) in
     let e = c .before .before .before .before .width .given .1 in
-    let w : ℕ = c .before .before .before .before .width .given .0 .1 .0 in
-    let vs : ℕ → List Value = λ w. sessionValues w (a .peer) (a .local) (a .interface) (a .family) (now (a .theirs)) (now (a .ours)) (stateValues (a .old) (a .new)) in
-    let s = c .before .session-refusal .ensures stateChange (stateValues (a .old) (a .new)) (c .before .before .states-refusal .ensures) in
-    let y = c .stamped-refusal .ensures (session w stateChange) (vs w) s in
-    head-passes _ _ (given (c .before .before .before .before .before .before .before .before .before .before .before .before .before)) (type-fits (a .time)) (own-typed 4096 changes (kind (bgp4mp (a .time)) (a .subtype)) (lit< tt)) _ (head (c .before .before .before .before .before .before .before .before .before)) _ (search needs)
-    (change-body (a .time) _ w _ _ vs (rw (sym (k .0)) (k .1)) (sym (k .0) ∙ e) y)
+    let m = rw e at (k .stamps) in
+    let w : asOctets (kind (bgp4mp (a .time)) (a .subtype)) ≡ c .before .before .before .before .width .given .0 .1 .0 = ap asOctets (sym (k .page) ∙ e) in
+    owns 4096 changes noTable (given s) _ _ (lit< tt) (type-fits (a .time)) (sym (k .page) ∙ e) (head (c .before .before .before .before .before .before .before .before .before)) _ (search needs) refl
+    (rw (w, m) (c .stamped-refusal .ensures _ _ (c .before .session-refusal .ensures stateChange (stateValues (a .old) (a .new)) (c .before .before .states-refusal .ensures))))
 
 pub change-refusal-spec : {M : Type 1} → statement M
 change-refusal-spec =

@@ -1,14 +1,7 @@
 -- `write_bgp::put_session` meets its contract: each field goes behind the one before. Assumes nothing.
-use mathlib.Core.Path.{ap, _∙_}
-use mathlib.Core.List.{List, _++_, append-assoc, append-nil}
-use Prim.Native.Nat.{ℕ, _+_, _≤_}
 use native.Mathlib.Omega.{arith}
 use denote.Ref.{now}
-use lib.ListN.{length, length-append}
-use Rattle.form.specs.Octets.{toBe}
-use Rattle.form.proofs.Octets.{length-toBe}
-use Rattle.copy.specs.Over.{over}
-use Rattle.copy.proofs.Laws.{more}
+use Rattle.writing.proofs.Laid.{none, number, octets}
 use borrow.Author.Needs.{needs}
 use Rattle.write_bgp.proofs.put_session.Statement.{statement}
 use Rattle.write_bgp.proofs.put_session.Tie as tie
@@ -55,21 +48,15 @@ same-length c = search needs
 returns : tie.Need-returns
 returns c =
     let a = c .before .before .before .before .before .before .before .before .before .before .before .before .before .before .before .before .before .before .before .before .before .before .before .before .before .before .before .args in
-    let o : List ℕ = now (a .out) in
-    let p : List ℕ = toBe (a .width) (a .peer) in
-    let l : List ℕ = toBe (a .width) (a .local) in
-    let i : List ℕ = toBe 2 (a .interface) in
-    let f : List ℕ = toBe 2 (a .family) in
-    let theirs : List ℕ = now (a .theirs) in
-    let ours : List ℕ = now (a .ours) in
-    let h : a .at + (a .width + (a .width + (4 + (length theirs + length ours)))) ≤ length o = c .before .before .before .before .before .before .before .before .before .before .before .before .before .before .before .before .before .before .before .before .before .before .before .before .before .before .before .pre in
-    let x1 = c .before .before .before .before .before .before .before .before .before .before .before .before .before .before .before .before .before .before .before .before .before .before .put-number .ensures in
-    let x2 = more o p l _ _ (a .at) _ x1 (c .before .before .before .before .before .before .before .before .before .before .before .before .before .before .before .before .before .before .put-number2 .ensures) (simp (length-append, length-toBe) (omega arith)) (simp (length-append, length-toBe) (omega arith)) in
-    let x3 = more o (p ++ l) i _ _ (a .at) _ x2 (c .before .before .before .before .before .before .before .before .before .before .before .before .before .before .put-number3 .ensures) (simp (length-append, length-toBe) (omega arith)) (simp (length-append, length-toBe) (omega arith)) in
-    let x4 = more o (p ++ l ++ i) f _ _ (a .at) _ x3 (c .before .before .before .before .before .before .before .before .before .before .put-number4 .ensures) (simp (length-append, length-toBe) (omega arith)) (simp (length-append, length-toBe) (omega arith)) in
-    let x5 = more o (p ++ l ++ i ++ f) theirs _ _ (a .at) _ x4 (c .before .before .before .before .before .before .put-bytes .ensures) (simp (length-append, length-toBe) (omega arith)) (simp (length-append, length-toBe) (omega arith)) in
-    let x6 = more o (p ++ l ++ i ++ f ++ theirs) ours _ _ (a .at) _ x5 (c .before .before .put-bytes2 .ensures) (simp (length-append, length-toBe) (omega arith)) (simp (length-append, length-toBe) (omega arith)) in
-    (search needs, x6 ∙ ap (over o (a .at)) (simp (append-assoc, append-nil)))
+    let h = c .before .before .before .before .before .before .before .before .before .before .before .before .before .before .before .before .before .before .before .before .before .before .before .before .before .before .before .pre in
+    let x0 = none (now (a .out)) (a .at) (omega arith) in
+    let x1 = number x0 _ _ (c .before .before .before .before .before .before .before .before .before .before .before .before .before .before .before .before .before .before .before .before .before .before .put-number .ensures) (omega arith) (omega arith) in
+    let x2 = number x1 _ _ (c .before .before .before .before .before .before .before .before .before .before .before .before .before .before .before .before .before .before .put-number2 .ensures) (omega arith) (omega arith) in
+    let x3 = number x2 _ _ (c .before .before .before .before .before .before .before .before .before .before .before .before .before .before .put-number3 .ensures) (omega arith) (omega arith) in
+    let x4 = number x3 _ _ (c .before .before .before .before .before .before .before .before .before .before .put-number4 .ensures) (omega arith) (omega arith) in
+    let x5 = octets x4 _ (c .before .before .before .before .before .before .put-bytes .ensures) (omega arith) (omega arith) in
+    let x6 = octets x5 _ (c .before .before .put-bytes2 .ensures) (omega arith) (omega arith) in
+    (search needs, x6 .is)
 
 pub put-session-spec : {M : Type 1} → statement M
 put-session-spec =

@@ -1,4 +1,6 @@
 -- `write_bgp::states_refusal` meets its contract. Assumes nothing.
+use Prim.Native.Nat.{_<_}
+use native.Mathlib.Omega.{arith}
 use Rattle.page.specs.Bgp4mp.{stateChange, state}
 use Rattle.flow.proofs.PutRules.{put-flow}
 use borrow.Author.Needs.{needs}
@@ -33,7 +35,7 @@ returns-5 c = search put-flow depth 12
 
 returns-6 : tie.Need-returns-6
 unfolding stateChange state
-returns-6 c = search put-flow depth 12
+returns-6 c = let h : 6 < c .before .before .before .before .before .before .before .before .args .new = omega arith in search put-flow depth 12
 
 returns-7 : tie.Need-returns-7
 unfolding stateChange state

@@ -1,9 +1,7 @@
 -- `write_bgp::width_of` meets its contract. Assumes nothing.
-use mathlib.Core.Path.{_≡_, sym, ap, _∙_}
-use Rattle.page.specs.Layout.{kind}
-use Rattle.writing.specs.Times.{microOf, bgp4mp}
+use mathlib.Core.Path.{sym, ap, _∙_}
 use Rattle.writing.specs.Only.{asOctets}
-use Rattle.write_bgp.proofs.Laws.{Sane, found, no-width}
+use Rattle.write_bgp.proofs.Laws.{Found, found, no-width}
 use borrow.Author.Needs.{needs}
 use Rattle.write_bgp.proofs.width_of.Statement.{statement}
 use Rattle.write_bgp.proofs.width_of.Tie as tie
@@ -15,8 +13,8 @@ kind-16-requires : tie.Need-kind-16-requires
 kind-16-requires c κs = search needs
 
 -- the kind, as the page has it
-kind-found : (c : tie.After-kind-16) → (c .kind-16 .result ≡ kind (bgp4mp (c .before .before .args .time)) (c .before .before .args .subtype)) × Sane (microOf (c .before .before .args .time)) (c .kind-16 .result)
-kind-found c = found (c .before .before .args .time) (c .before .before .args .subtype) _ _ (c .before .micro .ensures) (c .kind-16 .ensures)
+kind-found : (c : tie.After-kind-16) → Found (c .before .before .args .time) (c .before .before .args .subtype) (c .kind-16 .result)
+kind-found c = found _ _ _ _ (c .before .micro .ensures) (c .kind-16 .ensures)
 
 enum-known-width : tie.Need-enum-known-width
 enum-known-width c = search needs
@@ -27,17 +25,17 @@ enum-known-width-2 c = search needs
 returns : tie.Need-returns
 returns c =
     let k = kind-found (c .before .before .before) in
-    let s = rw (c .before .width .given .1) at (k .1) in
-    (ap asOctets (sym (c .before .width .given .1) ∙ k .0), s .1)
+    let s = rw (c .before .width .given .1) at (k .sane) in
+    (ap asOctets (sym (c .before .width .given .1) ∙ k .page), s .1)
 
 returns-2 : tie.Need-returns-2
 returns-2 c =
     let k = kind-found (c .before .before .before) in
-    let s = rw (c .before .width2 .given .1) at (k .1) in
-    (ap asOctets (sym (c .before .width2 .given .1) ∙ k .0), s .1)
+    let s = rw (c .before .width2 .given .1) at (k .sane) in
+    (ap asOctets (sym (c .before .width2 .given .1) ∙ k .page), s .1)
 
 returns-3 : tie.Need-returns-3
-returns-3 c = (no-width (c .before .kind-16 .result) (c .match .keys3) ∙ ap asOctets (kind-found (c .before) .0), search needs)
+returns-3 c = (no-width (c .before .kind-16 .result) (c .match .keys3) ∙ ap asOctets (kind-found (c .before) .page), search needs)
 
 pub width-of-spec : {M : Type 1} → statement M
 width-of-spec =

@@ -1,23 +1,21 @@
 -- `write_bgp::write_change` meets its contract: header, microseconds, session, states. Assumes nothing.
 use mathlib.Core.Path.{_≡_, refl, sym, ap, _∙_}
-use mathlib.Core.List.{List, _++_}
-use Prim.Native.Nat.{ℕ, _+_, _*_, _^_, _≤_, _<_}
+use mathlib.Core.List.{List, [], append-assoc, append-nil}
+use Prim.Native.Nat.{ℕ, _+_, _^_, _≤_, _<_}
 use native.Mathlib.Omega.{arith}
 use denote.Ref.{now}
 use lib.ListN.{length}
-use Rattle.form.specs.Fmt.{join}
-use Rattle.form.specs.Octets.{toBe}
-use Rattle.form.specs.Put.{Given, lay, message}
+use Rattle.form.specs.Put.{Given, message}
 use Rattle.form.specs.Shape.{noTable}
-use Rattle.form.proofs.Octets.{length-toBe}
 use Rattle.copy.specs.Over.{over}
 use Rattle.writing.specs.Times.{microOf, micros}
 use Rattle.writing.specs.Only.{onlySub, changes}
-use Rattle.writing.specs.Givens.{changeGiven}
+use Rattle.writing.specs.Givens.{sessionValues, stateValues, changeGiven}
 use Rattle.writing.specs.Verdict.{capped}
-use Rattle.writing.proofs.Sums.{capped-more}
+use Rattle.writing.proofs.Sums.{summed}
 use Rattle.writing.proofs.Answers.{refuses, Goes, goes, done, micros-long}
-use Rattle.write_bgp.proofs.Laws.{micro-small, opening, opening-long, change-octets, change-long, three-more}
+use Rattle.writing.proofs.Laid.{none, values, number}
+use Rattle.write_bgp.proofs.Laws.{micro-small, opening-long, states-long, behind-long}
 use borrow.Author.Needs.{needs}
 use Rattle.write_bgp.proofs.write_change.Statement.{statement}
 use Rattle.write_bgp.proofs.write_change.Tie as tie
@@ -57,9 +55,9 @@ sized c =
     let a = c .before .before .before .before .before .before .before .before .args in
     let m = c .before .before .micro .ensures in
     let w = c .before .before .before .width-of .ensures .0 in
-    let l = change-long (a .time) (a .subtype) (a .peer) (a .local) (a .interface) (a .family) (now (a .theirs)) (now (a .ours)) (a .old) (a .new) in
-    let n : ℕ = c .before .before .micro .result + 2 * c .before .before .before .width-of .result + 8 + length (now (a .theirs)) in
-    c .add2 .ensures ∙ ap (λ (x : ℕ). capped (x + length (now (a .ours)))) (c .before .add .ensures) ∙ capped-more n (length (now (a .ours))) ∙ ap capped (omega arith)
+    let l = behind-long (a .time) (a .subtype) (a .peer) (a .local) (a .interface) (a .family) (now (a .theirs)) (now (a .ours)) (stateValues (a .old) (a .new)) in
+    let b = states-long (a .old) (a .new) in
+    summed _ _ _ _ (c .before .add .ensures) (c .add2 .ensures) ∙ ap capped (omega arith)
 
 verdict-requires : tie.Need-verdict-requires
 verdict-requires c κs = search needs
@@ -76,13 +74,14 @@ returns c =
 
 -- the record goes into the buffer
 fine : (c : tie.After-enum-told) → Goes (onlySub changes 4096) noTable (given (c .before .before .before .before .before .before .before .before .before .before .before)) (now (c .before .before .before .before .before .before .before .before .before .before .before .args .out)) (c .before .before .before .add2 .result) (c .before .before .verdict .result)
-fine c = goes _ _ _ _ _ _ _ _ _ (c .before .before .before .before .before .before .before .change-refusal .ensures) (sized (c .before .before .before)) refl (c .before .before .verdict .ensures) (c .enum-told .given .1)
+fine c = goes _ _ _ _ _ _ _ _ (c .before .before .before .before .before .before .before .change-refusal .ensures) (sized (c .before .before .before)) refl (c .before .before .verdict .ensures) _ (c .enum-told .given .1)
 
 space : (c : tie.After-enum-told) → 12 + (microOf (c .before .before .before .before .before .before .before .before .before .before .before .args .time) + (c .before .before .before .before .before .before .width-of .result + (c .before .before .before .before .before .before .width-of .result + (8 + (length (now (c .before .before .before .before .before .before .before .before .before .before .before .args .theirs)) + length (now (c .before .before .before .before .before .before .before .before .before .before .before .args .ours))))))) ≤ length (now (c .before .before .before .before .before .before .before .before .before .before .before .args .out))
 space c =
     let a = c .before .before .before .before .before .before .before .before .before .before .before .args in
     let w = c .before .before .before .before .before .before .width-of .ensures .0 in
-    let l = change-long (a .time) (a .subtype) (a .peer) (a .local) (a .interface) (a .family) (now (a .theirs)) (now (a .ours)) (a .old) (a .new) in
+    let l = behind-long (a .time) (a .subtype) (a .peer) (a .local) (a .interface) (a .family) (now (a .theirs)) (now (a .ours)) (stateValues (a .old) (a .new)) in
+    let b = states-long (a .old) (a .new) in
     omega (arith, fine c .space)
 
 bound : (c : tie.After-enum-told) → length (now (c .before .before .before .before .before .before .before .before .before .before .before .args .out)) < 2 ^ 64
@@ -124,20 +123,15 @@ returns-2 c =
     let known = c .before .before .before .before .before .before .before .before .before .before .before .before .before .before .before .before .slice-known2 .given in
     let head = rw (c .before .before .before .before .before .before .before .before .before .before .before .before .before .before .before .before .before .before .before .before .seconds .ensures, c .before .before .before .before .before .before .before .before .before .before .before .before .before .before .before .before .before .before .before .bgp-type .ensures) at (c .before .before .before .before .before .before .before .before .before .before .before .before .before .before .before .before .before .before .put-head .ensures) in
     let w = c .before .before .before .before .before .before .before .before .before .before .before .before .before .before .before .before .before .before .before .before .before .before .before .before .before .before .before .before .width-of in
-    let m : List ℕ = join (lay (micros (a .time))) in
-    let f : ℕ → List ℕ = λ w. opening w (a .peer) (a .local) (a .interface) (a .family) (now (a .theirs)) (now (a .ours)) in
-    let x = micros-long (a .time) in
     let y = opening-long (w .result) (a .peer) (a .local) (a .interface) (a .family) (now (a .theirs)) (now (a .ours)) in
-    let rest =
-    three-more (c .before .before .before .before .before .before .before .before .before .before .before .before .before .before .before .before .before .before .put-head .last .0) m (f (w .result)) (toBe 2 (a .old)) (toBe 2 (a .new)) _ _ _ _ _ _ _
-    (c .before .before .before .before .before .before .before .before .before .before .before .before .before .before .put-micros .ensures .1) (c .before .before .before .before .before .before .before .before .before .before .put-session .ensures .1) (c .before .before .before .before .before .before .put-number .ensures) (c .before .before .put-number2 .ensures)
-    (c .before .before .before .before .before .before .before .before .before .before .before .before .before .before .put-micros .ensures .0 ∙ ap (λ (n : ℕ). 12 + n) (sym x))
-    (c .before .before .before .before .before .before .before .before .before .before .put-session .ensures .0 ∙ ap (λ (n : ℕ). c .before .before .before .before .before .before .before .before .before .before .before .before .before .before .put-micros .result + n) (sym y))
-    (ap (λ (n : ℕ). c .before .before .before .before .before .before .before .before .before .before .put-session .result + n) (sym (length-toBe 2 (a .old))))
-    (rw (x, y, length-toBe 2 (a .old), length-toBe 2 (a .new)) (search needs)) in
-    done _ _ _ _ _ _ _ _ (fine told) head
-    (rest ∙ ap (over (c .before .before .before .before .before .before .before .before .before .before .before .before .before .before .before .before .before .before .put-head .last .0) 12) (ap (λ (w : ℕ). m ++ (f w ++ (toBe 2 (a .old) ++ toBe 2 (a .new)))) (w .ensures .0)
-    ∙ sym (change-octets (a .time) (a .subtype) (a .peer) (a .local) (a .interface) (a .family) (now (a .theirs)) (now (a .ours)) (a .old) (a .new))))
+    let i = c .before .before .before .before .before .before .before .before .before .before .before .before .before .before .put-micros .ensures .0 in
+    let j = c .before .before .before .before .before .before .before .before .before .before .put-session .ensures .0 in
+    let h : List ℕ = c .before .before .before .before .before .before .before .before .before .before .before .before .before .before .before .before .before .before .put-head .last .0 in
+    let x1 = values (none h 12 (search needs)) (micros (a .time)) (microOf (a .time)) (micros-long (a .time)) (c .before .before .before .before .before .before .before .before .before .before .before .before .before .before .put-micros .ensures .1) (omega arith) (search needs) in
+    let x2 = values x1 (sessionValues (w .result) (a .peer) (a .local) (a .interface) (a .family) (now (a .theirs)) (now (a .ours)) []) _ y (c .before .before .before .before .before .before .before .before .before .before .put-session .ensures .1) (omega arith) (search needs) in
+    let x3 = number x2 2 (a .old) (c .before .before .before .before .before .before .put-number .ensures) (omega arith) (search needs) in
+    let x4 = number x3 2 (a .new) (c .before .before .put-number2 .ensures) (omega arith) (search needs) in
+    done _ _ _ _ _ _ _ _ (fine told) head (x4 .is ∙ ap (over h 12) (rw (sym (w .ensures .0), append-assoc (micros (a .time)), append-assoc (micros (a .time))) (simp append-nil)))
 
 pub write-change-spec : {M : Type 1} → statement M
 write-change-spec =

@@ -25,7 +25,7 @@ sized : (c : tie.After-verdict) → c .before .add2 .result ≡ capped (length (
 sized c = summed _ _ _ _ (c .before .before .add .ensures) (c .before .add2 .ensures) ∙ ap capped (long c)
 
 fine : (c : tie.After-enum-told) → Goes (onlySub peerTables 4096) noTable (given (c .before .before)) (now (c .before .before .before .before .before .before .before .before .before .args .out)) (c .before .before .before .add2 .result) (c .before .before .verdict .result)
-fine c = goes (onlySub peerTables 4096) noTable (given (c .before .before)) (now (c .before .before .before .before .before .before .before .before .before .args .out)) _ _ _ _ _ (c .before .before .before .before .before .table-refusal .ensures) (sized (c .before .before)) refl (c .before .before .verdict .ensures) (c .enum-told .given .1)
+fine c = goes (onlySub peerTables 4096) noTable (given (c .before .before)) (now (c .before .before .before .before .before .before .before .before .before .args .out)) _ _ _ _ (c .before .before .before .before .before .table-refusal .ensures) (sized (c .before .before)) refl (c .before .before .verdict .ensures) _ (c .enum-told .given .1)
 
 table-refusal-requires : tie.Need-table-refusal-requires
 table-refusal-requires c κs = search needs

@@ -1,14 +1,10 @@
 -- `write_rib::put_entries` meets its contract: each field goes behind the one before. Assumes nothing.
 use mathlib.Core.Path.{ap, _∙_}
-use mathlib.Core.List.{List, _++_, append-assoc, append-nil}
-use Prim.Native.Nat.{ℕ, _+_, _≤_}
+use mathlib.Core.List.{append-assoc, append-nil}
 use native.Mathlib.Omega.{arith}
 use denote.Ref.{now}
-use lib.ListN.{length, length-append}
-use Rattle.form.specs.Octets.{toBe}
-use Rattle.form.proofs.Octets.{length-toBe}
 use Rattle.copy.specs.Over.{over}
-use Rattle.copy.proofs.Laws.{more}
+use Rattle.writing.proofs.Laid.{none, number, octets}
 use borrow.Author.Needs.{needs}
 use Rattle.write_rib.proofs.put_entries.Statement.{statement}
 use Rattle.write_rib.proofs.put_entries.Tie as tie
@@ -40,18 +36,13 @@ same-length c = search needs
 returns : tie.Need-returns
 returns c =
     let a = c .before .before .before .before .before .before .before .before .before .before .before .before .before .before .before .before .before .before .before .args in
-    let o : List ℕ = now (a .out) in
-    let at : ℕ = a .at in
-    let b : List ℕ = toBe 1 (a .bits) in
-    let p : List ℕ = now (a .prefix) in
-    let n : List ℕ = toBe 2 (a .count) in
-    let r : List ℕ = now (a .entries) in
-    let h : at + (3 + (length p + length r)) ≤ length o = c .before .before .before .before .before .before .before .before .before .before .before .before .before .before .before .before .before .before .before .pre in
-    let x1 = c .before .before .before .before .before .before .before .before .before .before .before .before .before .before .put-number .ensures in
-    let x2 = more o b p _ _ at _ x1 (c .before .before .before .before .before .before .before .before .before .before .put-bytes .ensures) (simp length-toBe) (simp length-toBe (omega arith)) in
-    let x3 = more o (b ++ p) n _ _ at _ x2 (c .before .before .before .before .before .before .put-number2 .ensures) (simp (length-append, length-toBe) (omega arith)) (simp (length-append, length-toBe) (omega arith)) in
-    let x4 = more o ((b ++ p) ++ n) r _ _ at _ x3 (c .before .before .put-bytes2 .ensures) (simp (length-append, length-toBe) (omega arith)) (simp (length-append, length-toBe) (omega arith)) in
-    x4 ∙ ap (over o at) (simp (append-assoc, append-nil))
+    let h = c .before .before .before .before .before .before .before .before .before .before .before .before .before .before .before .before .before .before .before .pre in
+    let x0 = none (now (a .out)) (a .at) (omega arith) in
+    let x1 = number x0 _ _ (c .before .before .before .before .before .before .before .before .before .before .before .before .before .before .put-number .ensures) (omega arith) (omega arith) in
+    let x2 = octets x1 _ (c .before .before .before .before .before .before .before .before .before .before .put-bytes .ensures) (omega arith) (omega arith) in
+    let x3 = number x2 _ _ (c .before .before .before .before .before .before .put-number2 .ensures) (omega arith) (omega arith) in
+    let x4 = octets x3 _ (c .before .before .put-bytes2 .ensures) (omega arith) (omega arith) in
+    x4 .is ∙ ap (over (now (a .out)) (a .at)) (simp (append-assoc, append-nil))
 
 pub put-entries-spec : {M : Type 1} → statement M
 put-entries-spec =

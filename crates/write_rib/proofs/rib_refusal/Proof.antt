@@ -1,5 +1,6 @@
 -- `write_rib::rib_refusal` meets its contract. Assumes nothing.
 use mathlib.Core.Path.{refl, sym, _∙_}
+use mathlib.Core.List.{[], _∷_}
 use native.Mathlib.Omega.{arith}
 use denote.Ref.{now}
 use Rattle.form.specs.Fmt.{end}
@@ -9,10 +10,11 @@ use Rattle.page.specs.Layout.{kind, layoutOf}
 use Rattle.page.specs.Rib.{ribHead}
 use Rattle.shown.specs.Table.{tableOf}
 use Rattle.flow.proofs.PutRules.{number-fits, number-large}
+use Rattle.page.proofs.Widths.{sane13}
 use Rattle.writing.specs.Only.{ribs}
 use Rattle.writing.specs.Givens.{ribGiven}
-use Rattle.writing.proofs.Turns.{stops, others, owns}
-use Rattle.write_rib.proofs.Laws.{no-rib, rib-bits, no-table, held-stops, held-passes}
+use Rattle.writing.proofs.Turns.{not-own, stops, others, owns}
+use Rattle.write_rib.proofs.Laws.{no-table, held-stops, held-passes}
 use borrow.Author.Needs.{needs}
 use Rattle.write_rib.proofs.rib_refusal.Statement.{statement}
 use Rattle.write_rib.proofs.rib_refusal.Tie as tie
@@ -38,7 +40,7 @@ unfolding kind choose
 returns-2 c =
     let a = c .before .before .before .before .before .before .args in
     let g : Given = ribGiven (a .timestamp) (a .subtype) (a .sequence) (a .bits) (now (a .prefix)) (a .count) (now (a .entries)) in
-    others 4096 ribs (tableOf (a .told)) g _ _ (omega arith) refl (sym (c .before .kind-13 .ensures)) (c .before .before .before .head-refusal .ensures) (c .before .before .if1 .left) (no-rib (c .before .kind-13 .result) (c .match .keys2))
+    others 4096 ribs (tableOf (a .told)) g _ _ (omega arith) refl (sym (c .before .kind-13 .ensures)) (c .before .before .before .head-refusal .ensures) (c .before .before .if1 .left) (not-own (0 ∷ 1 ∷ 2 ∷ 3 ∷ 5 ∷ 6 ∷ 7 ∷ []) ribs 4 (c .before .kind-13 .result) refl tt (c .match .keys2))
 
 enum-known-told : tie.Need-enum-known-told
 enum-known-told c = search needs
@@ -66,7 +68,7 @@ returns-4 c =
     (held-stops (a .told) _ (ribHead (c .before .before .before .before .before .before .most .given .0 .0) (end 0)) (g .values) (g .tail) 6 (c .before .before .before .told .given .1) (number-large _ _ 4 _ _ _ _ (c .before .large .ensures) (c .if2 .taken) refl) (omega arith))
 
 prefix-refusal-requires : tie.Need-prefix-refusal-requires
-prefix-refusal-requires c κs = rib-bits _ _ (sym (c .before .before .before .before .before .before .before .before .kind-13 .ensures) ∙ c .before .before .before .before .before .before .most .given .1)
+prefix-refusal-requires c κs = rw (sym (c .before .before .before .before .before .before .before .before .kind-13 .ensures) ∙ c .before .before .before .before .before .before .most .given .1) at (sane13 (c .before .before .before .before .before .before .before .before .before .before .before .before .before .args .subtype))
 
 returns-5 : tie.Need-returns-5
 unfolding kind choose layoutOf

@@ -27,7 +27,7 @@ sized c = summed _ _ _ _ (c .before .before .add .ensures) (c .before .add2 .ens
 fine : (c : tie.After-enum-told) → Goes (onlySub ribs 4096) (tableOf (c .before .before .before .before .before .before .before .before .before .args .told)) (given (c .before .before)) (now (c .before .before .before .before .before .before .before .before .before .args .out)) (c .before .before .before .add2 .result) (c .before .before .verdict .result)
 fine c =
     let a = c .before .before .before .before .before .before .before .before .before .args in
-    goes (onlySub ribs 4096) (tableOf (a .told)) (given (c .before .before)) (now (a .out)) _ _ _ _ _ (c .before .before .before .before .before .rib-refusal .ensures) (sized (c .before .before)) refl (c .before .before .verdict .ensures) (c .enum-told .given .1)
+    goes (onlySub ribs 4096) (tableOf (a .told)) (given (c .before .before)) (now (a .out)) _ _ _ _ (c .before .before .before .before .before .rib-refusal .ensures) (sized (c .before .before)) refl (c .before .before .verdict .ensures) _ (c .enum-told .given .1)
 
 rib-refusal-requires : tie.Need-rib-refusal-requires
 rib-refusal-requires c κs = search needs

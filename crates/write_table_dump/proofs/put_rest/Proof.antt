@@ -1,14 +1,7 @@
 -- `write_table_dump::put_rest` meets its contract: each field goes behind the one before. Assumes nothing.
-use mathlib.Core.Path.{ap, _∙_}
-use mathlib.Core.List.{List, _++_, append-assoc, append-nil}
-use Prim.Native.Nat.{ℕ, _+_, _≤_}
 use native.Mathlib.Omega.{arith}
 use denote.Ref.{now}
-use lib.ListN.{length, length-append}
-use Rattle.form.specs.Octets.{toBe}
-use Rattle.form.proofs.Octets.{length-toBe}
-use Rattle.copy.specs.Over.{over}
-use Rattle.copy.proofs.Laws.{more}
+use Rattle.writing.proofs.Laid.{none, number, octets}
 use borrow.Author.Needs.{needs}
 use Rattle.write_table_dump.proofs.put_rest.Statement.{statement}
 use Rattle.write_table_dump.proofs.put_rest.Tie as tie
@@ -52,22 +45,15 @@ same-length c = search needs
 returns : tie.Need-returns
 returns c =
     let a = c .before .before .before .before .before .before .before .before .before .before .before .before .before .before .before .before .before .before .before .before .before .before .before .before .before .before .before .args in
-    let o : List ℕ = now (a .out) in
-    let at : ℕ = a .at in
-    let s : List ℕ = toBe 1 (a .status) in
-    let t : List ℕ = toBe 4 (a .originated) in
-    let d : List ℕ = now (a .address) in
-    let p : List ℕ = toBe 2 (a .peer) in
-    let r : List ℕ = now (a .attributes) in
-    let n : List ℕ = toBe 2 (length r) in
-    let h : at + (9 + (length d + length r)) ≤ length o = c .before .before .before .before .before .before .before .before .before .before .before .before .before .before .before .before .before .before .before .before .before .before .before .before .before .before .before .pre in
-    let x1 = c .before .before .before .before .before .before .before .before .before .before .before .before .before .before .before .before .before .before .before .before .before .before .put-number .ensures in
-    let x2 = more o s t _ _ at _ x1 (c .before .before .before .before .before .before .before .before .before .before .before .before .before .before .before .before .before .before .put-number2 .ensures) (simp length-toBe) (simp length-toBe (omega arith)) in
-    let x3 = more o (s ++ t) d _ _ at _ x2 (c .before .before .before .before .before .before .before .before .before .before .before .before .before .before .put-bytes .ensures) (simp (length-append, length-toBe)) (simp (length-append, length-toBe) (omega arith)) in
-    let x4 = more o ((s ++ t) ++ d) p _ _ at _ x3 (c .before .before .before .before .before .before .before .before .before .before .put-number3 .ensures) (simp (length-append, length-toBe) (omega arith)) (simp (length-append, length-toBe) (omega arith)) in
-    let x5 = more o (((s ++ t) ++ d) ++ p) n _ _ at _ x4 (c .before .before .before .before .before .before .put-number4 .ensures) (simp (length-append, length-toBe) (omega arith)) (simp (length-append, length-toBe) (omega arith)) in
-    let x6 = more o ((((s ++ t) ++ d) ++ p) ++ n) r _ _ at _ x5 (c .before .before .put-bytes2 .ensures) (simp (length-append, length-toBe) (omega arith)) (simp (length-append, length-toBe) (omega arith)) in
-    x6 ∙ ap (over o at) (simp (append-assoc, append-nil))
+    let h = c .before .before .before .before .before .before .before .before .before .before .before .before .before .before .before .before .before .before .before .before .before .before .before .before .before .before .before .pre in
+    let x0 = none (now (a .out)) (a .at) (omega arith) in
+    let x1 = number x0 _ _ (c .before .before .before .before .before .before .before .before .before .before .before .before .before .before .before .before .before .before .before .before .before .before .put-number .ensures) (omega arith) (omega arith) in
+    let x2 = number x1 _ _ (c .before .before .before .before .before .before .before .before .before .before .before .before .before .before .before .before .before .before .put-number2 .ensures) (omega arith) (omega arith) in
+    let x3 = octets x2 _ (c .before .before .before .before .before .before .before .before .before .before .before .before .before .before .put-bytes .ensures) (omega arith) (omega arith) in
+    let x4 = number x3 _ _ (c .before .before .before .before .before .before .before .before .before .before .put-number3 .ensures) (omega arith) (omega arith) in
+    let x5 = number x4 _ _ (c .before .before .before .before .before .before .put-number4 .ensures) (omega arith) (omega arith) in
+    let x6 = octets x5 _ (c .before .before .put-bytes2 .ensures) (omega arith) (omega arith) in
+    x6 .is
 
 pub put-rest-spec : {M : Type 1} → statement M
 put-rest-spec =

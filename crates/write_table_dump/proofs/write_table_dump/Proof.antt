@@ -30,7 +30,7 @@ sized c = summed _ _ _ _ (summed _ _ _ _ (c .before .before .before .add .ensure
 
 fine : (c : tie.After-enum-told) → Goes (onlySub tableDumps 4096) noTable (given (c .before .before)) (now (c .before .before .before .before .before .before .before .before .before .before .before .args .out)) (c .before .before .before .add3 .result) (c .before .before .verdict .result)
 fine c =
-    goes (onlySub tableDumps 4096) noTable (given (c .before .before)) (now (c .before .before .before .before .before .before .before .before .before .before .before .args .out)) _ _ _ _ _ (c .before .before .before .before .before .before .dump-refusal .ensures) (sized (c .before .before)) refl (c .before .before .verdict .ensures) (c .enum-told .given .1)
+    goes (onlySub tableDumps 4096) noTable (given (c .before .before)) (now (c .before .before .before .before .before .before .before .before .before .before .before .args .out)) _ _ _ _ (c .before .before .before .before .before .before .dump-refusal .ensures) (sized (c .before .before)) refl (c .before .before .verdict .ensures) _ (c .enum-told .given .1)
 
 dump-refusal-requires : tie.Need-dump-refusal-requires
 dump-refusal-requires c κs = search needs

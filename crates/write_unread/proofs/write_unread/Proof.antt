@@ -51,7 +51,7 @@ returns c =
 
 -- the record goes into the buffer
 fine : (c : tie.After-enum-told) → Goes (onlyType (unreads (microOf (c .before .before .before .before .before .before .before .before .args .time))) 4096) noTable (given (c .before .before .before .before .before .before .before .before)) (now (c .before .before .before .before .before .before .before .before .args .out)) (c .before .before .before .before .add .result) (c .before .before .verdict .result)
-fine c = goes _ _ _ _ _ _ _ _ _ (c .before .before .before .unread-refusal .ensures) (sized (c .before .before .before .before)) refl (c .before .before .verdict .ensures) (c .enum-told .given .1)
+fine c = goes _ _ _ _ _ _ _ _ (c .before .before .before .unread-refusal .ensures) (sized (c .before .before .before .before)) refl (c .before .before .verdict .ensures) _ (c .enum-told .given .1)
 
 space : (c : tie.After-enum-told) → 12 + (microOf (c .before .before .before .before .before .before .before .before .args .time) + length (now (c .before .before .before .before .before .before .before .before .args .contents))) ≤ length (now (c .before .before .before .before .before .before .before .before .args .out))
 space c =

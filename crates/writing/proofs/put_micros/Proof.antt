@@ -1,5 +1,5 @@
 -- `writing::put_micros` meets its contract. Assumes nothing.
-use mathlib.Core.Path.{_≡_, refl, sym, ap, _∙_}
+use mathlib.Core.Path.{refl, sym, ap, _∙_}
 use mathlib.Core.List.{append-nil}
 use Rattle.copy.specs.Over.{over}
 use Rattle.copy.proofs.Laws.{over-none}
