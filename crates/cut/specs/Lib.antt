@@ -1,0 +1,4 @@
+pub mod State
+pub mod Left
+pub mod Answer
+pub mod Stands
