@@ -45,7 +45,7 @@ cond-ok true n z e = refl
 cond-ok false n z e = absurd (z e)
 
 -- an entry's index is below the table's count, and any other that is may take its place
-entry-index : (n : ℕ) (g : Fmt) (it : List (List ℕ)) → Fits (indexed n g) it → (indexOf it < n) × (indexOf it < 65536)
+pub entry-index : (n : ℕ) (g : Fmt) (it : List (List ℕ)) → Fits (indexed n g) it → (indexOf it < n) × (indexOf it < 65536)
 unfolding Fits checked
 entry-index n g (c ∷ cs) h = (ltb-true _ _ (cond-ok (ltb (be c) n) 13 (λ z. omega arith) (h .2 .0)), be-below 2 c (h .0) (h .1))
 
@@ -53,7 +53,7 @@ entry-renumber : (n m j : ℕ) (g : Fmt) (it : List (List ℕ)) → Fits (indexe
 unfolding Fits checked
 entry-renumber n m j g (c ∷ cs) h a b = (length-toBe 2 j, octets-toBe 2 j, (rw (be-toBe 2 j b, lt-ltb j m a), h .2 .1))
 
-renumber-length : (n j : ℕ) (g : Fmt) (it : List (List ℕ)) → Fits (indexed n g) it → length (join (renumber j it)) ≡ length (join it)
+pub renumber-length : (n j : ℕ) (g : Fmt) (it : List (List ℕ)) → Fits (indexed n g) it → length (join (renumber j it)) ≡ length (join it)
 unfolding Fits checked
 renumber-length n j g (c ∷ cs) h = simp (length-append, length-toBe) (omega (arith, h .0))
 
