@@ -2,3 +2,5 @@ pub mod Found
 pub mod Moved
 pub mod Filled
 pub mod Loop
+pub mod Checked
+pub mod Rest
