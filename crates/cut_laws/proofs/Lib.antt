@@ -4,3 +4,5 @@ pub mod Filled
 pub mod Loop
 pub mod Checked
 pub mod Rest
+pub mod Shows
+pub mod Whole
