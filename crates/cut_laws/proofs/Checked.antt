@@ -25,6 +25,9 @@ nexts-append : (layout : ℕ → ℕ → Layout) (rs qs : List Rec) (st : St) �
 nexts-append layout [] qs st = refl
 nexts-append layout (r ∷ rs) qs st = nexts-append layout rs qs (next layout r st)
 
+pub first : (r : Rec) (q bs : List ℕ) → write r ++ q ≡ bs → take (size r) bs ≡ write r
+first r q bs e = rw (← e) (take-at (write r) q (size r) (length-write r))
+
 module _ (layout : ℕ → ℕ → Layout) where
   -- a record that lies at the front of bs
   pub record Read (st : St) (bs : List ℕ) : Type 0 where
@@ -45,9 +48,6 @@ module _ (layout : ℕ → ℕ → Layout) where
     where
       go : (o : Out Rec) → readRec layout st 0 bs ≡ o → Accepted o → (r : Rec) × (q : List ℕ) × (readRec layout st 0 bs ≡ good r q)
       go (good r q) e a = (r, q, e)
-
-  first : (r : Rec) (q bs : List ℕ) → write r ++ q ≡ bs → take (size r) bs ≡ write r
-  first r q bs e = rw (← e) (take-at (write r) q (size r) (length-write r))
 
   pub read-good : (st : St) (bs : List ℕ) (r : Rec) (q : List ℕ) → Octets bs → readRec layout st 0 bs ≡ good r q → Read st bs
   read-good st bs r q oc e =

@@ -6,3 +6,4 @@ pub mod Checked
 pub mod Rest
 pub mod Shows
 pub mod Whole
+pub mod Items

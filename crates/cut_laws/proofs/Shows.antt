@@ -21,14 +21,16 @@ use Rattle.round_trip.specs.Tells.{Tells}
 use Rattle.round_trip.specs.Agrees.{Agrees, Same}
 use Rattle.round_trip.proofs.One.{one-record}
 use Rattle.moving.specs.One.{Reads, recOf}
-use Rattle.cut_laws.proofs.Checked.{Read, is-rec, read-good}
+use Rattle.cut_laws.proofs.Checked.{Read, is-rec, first, read-good}
 
 -- x is shown of the record at `at` of d
 pub record Shows (most : ℕ) (d : List ℕ) (at : ℕ) (st : St) (x : Shown) : Type 0 where
   pub reads : Reads (layout most) st (drop at d)
   pub read : Read (layout most) st (drop at d)
   pub same : Same most (drop at d) (recOf (layout most) st (drop at d)) x
+  pub ends : place x ≡ size (recOf (layout most) st (drop at d))
   pub inside : at + place x ≤ length d
+  pub octets : take (place x) (drop at d) ≡ write (recOf (layout most) st (drop at d))
 
 -- what is not shown of a record
 differ : (n p : ℕ) → _≡_ {A = Shown} Nothing (Refused n p) → ⊥
@@ -56,7 +58,9 @@ module _ (most : ℕ) (d : List ℕ) (oc : Octets d) (at : ℕ) (more : at < len
             reads = is-rec (layout most) st s r q g .0;
             read = read-good (layout most) st s r q (octets-drop at d oc) g;
             same = rw z a;
+            ends = rw z (a .ends);
             inside = omega (arith, a .ends, length-write r, l, length-drop at d);
+            octets = rw (a .ends, z) (first r q s (w .1));
           }
 
   -- a fault is the record reader's

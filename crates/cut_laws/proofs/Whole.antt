@@ -98,10 +98,7 @@ micro-clock h y micro e (inr (a, b)) = let z : h .ty ≡ 17 = e ∙ a in rw (b, 
 
 -- x is shown of the record, which stays whole or goes
 pub record Whole (most from to : ℕ) (ms d : List ℕ) (at : ℕ) (st : St) (x : Shown) (stays : Bool) : Type 0 where
-  pub reads : Reads (layout most) st (drop at d)
-  pub ends : place x ≡ size (recOf (layout most) st (drop at d))
-  pub inside : at + place x ≤ length d
-  pub octets : take (place x) (drop at d) ≡ write (recOf (layout most) st (drop at d))
+  pub shown : Shows most d at st x
   pub left : writes (cutOne (layout most) (cutting from to ms) st (recOf (layout most) st (drop at d))) ≡ cond stays (take (place x) (drop at d)) []
   pub next : next (layout most) (recOf (layout most) st (drop at d)) st ≡ st
 
@@ -128,9 +125,7 @@ module _ (most from to : ℕ) (ms d : List ℕ) (oc : Octets d) (at : ℕ) (more
 
   -- from what is left of the record, in the reader's terms
   whole : (x : Shown) → Shows most d at st x → (b : Bool) → (writes (cutOne (layout most) c st r) ≡ cond b (write r) []) × (next (layout most) r st ≡ st) → Whole most from to ms d at st x b
-  whole x h b l =
-      let e : take (place x) (drop at d) ≡ write r = rw (h .same .ends) (h .read .octets) in
-      record { reads = h .reads; ends = h .same .ends; inside = h .inside; octets = e; left = rw e (l .0); next = l .1 }
+  whole x h b l = record { shown = h; left = rw (h .octets) (l .0); next = l .1 }
 
   pub unread-left : (h : Header) (p : Part) → readOne most t (drop at d) ≡ Unread h p → Whole most from to ms d at st (Unread h p) (leb from (time h) && ltb (time h) to)
   unfolding layout layoutOf
