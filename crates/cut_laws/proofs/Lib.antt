@@ -7,3 +7,4 @@ pub mod Rest
 pub mod Shows
 pub mod Whole
 pub mod Items
+pub mod Tables
