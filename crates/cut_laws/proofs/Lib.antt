@@ -8,3 +8,4 @@ pub mod Shows
 pub mod Whole
 pub mod Items
 pub mod Tables
+pub mod Ribs
