@@ -9,3 +9,4 @@ pub mod Whole
 pub mod Items
 pub mod Tables
 pub mod Ribs
+pub mod Answers
