@@ -1,13 +1,11 @@
 -- The four ways that a cut answers, and when each is given. Assumes nothing.
-use mathlib.Core.Path.{_≡_, refl, sym, ap, _∙_}
+use mathlib.Core.Path.{_≡_, refl}
 use mathlib.Core.List.{List, _++_}
-use Prim.Native.Nat.{ℕ, zero, suc, _+_, _≤_, _<_}
-use native.Mathlib.Omega.{arith}
+use Prim.Native.Nat.{ℕ, zero, suc, _≤_, _<_}
 use native.Mathlib.Nat.{zero-add}
-use lib.ListN.{length, take, drop}
+use lib.ListN.{length, drop}
 use borrow.Author.Tests.{lt-ltb, le-ltb}
 use Rattle.form.specs.Octets.{Octets}
-use Rattle.form.specs.Fmt.{bad}
 use Rattle.form.specs.Words.{choose}
 use Rattle.form.specs.Shape.{St}
 use Rattle.form.specs.Dump.{Splits}
@@ -16,7 +14,7 @@ use Rattle.shown.specs.declared.Shown.the-variants.{Refused}
 use Rattle.shown.specs.declared.Table.{Table}
 use Rattle.reading.specs.One.{readOne}
 use Rattle.round_trip.specs.Tells.{Tells}
-use Rattle.walking.specs.Walked.{walkedOf, walked}
+use Rattle.walking.specs.Walked.{walked}
 use Rattle.cutting.specs.Cut.{cutting}
 use Rattle.copy.specs.Over.{over}
 use Rattle.cut_laws.specs.Answer.{Cutted, octets, refused, leftOf, cutted, holds, cutAnswer, leaves}

@@ -1,15 +1,15 @@
 -- A first pass that checks the dump while it measures its cut: nothing is known of the records to come. Assumes nothing.
 use mathlib.Core.Path.{_≡_, refl, sym, ap, _∙_}
 use mathlib.Core.List.{List, [], _∷_, _++_, append-assoc, append-nil}
-use Prim.Native.Nat.{ℕ, zero, _+_, _≤_, _<_}
+use Prim.Native.Nat.{ℕ, _+_, _≤_, _<_}
 use native.Mathlib.Omega.{arith}
 use lib.ListN.{length, take, drop, length-append, length-take}
-use lib.Seq.{take-at, take-add, take-all, drop-drop}
+use lib.Seq.{take-at, take-add, take-all}
 use Rattle.form.specs.Octets.{Octets}
 use Rattle.form.specs.Fmt.{Out, bad, good}
 use Rattle.form.specs.Shape.{Layout, St, noTable}
 use Rattle.form.specs.Record.{Rec, write, size, readRec, Valid, next}
-use Rattle.form.specs.Dump.{writes, Valids, Splits, nexts, walkFrom, walkAll, stop}
+use Rattle.form.specs.Dump.{writes, Valids, Splits, nexts, walkFrom, walkAll}
 use Rattle.form.proofs.Octets.{octets-drop}
 use Rattle.form.proofs.Fmt.{Right}
 use Rattle.form.proofs.Record.{length-write, sound-rec}
@@ -19,7 +19,7 @@ use Rattle.walking.specs.Walked.{befores}
 use Rattle.cutting.specs.Cut.{Cut, cutRecs, cut}
 use Rattle.cutting.proofs.Cut.{cut-append, less-recs}
 use Rattle.moving.specs.Found.{Accepted}
-use Rattle.moving.specs.One.{theRec, Reads, recOf, cutOne}
+use Rattle.moving.specs.One.{Reads, recOf, cutOne}
 
 nexts-append : (layout : ℕ → ℕ → Layout) (rs qs : List Rec) (st : St) → nexts layout (rs ++ qs) st ≡ nexts layout qs (nexts layout rs st)
 nexts-append layout [] qs st = refl

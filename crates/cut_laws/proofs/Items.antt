@@ -1,14 +1,13 @@
 -- A record with items: where they lie, and what is written of it with other items. Assumes nothing.
 use mathlib.Core.Path.{_≡_, refl, sym, ap, _∙_, subst}
-use mathlib.Core.List.{List, [], _∷_, _++_, append-assoc, append-nil}
+use mathlib.Core.List.{List, _++_, append-assoc, append-nil}
 use Prim.Native.Nat.{ℕ, _+_, _-_, _^_, _≤_, _<_}
 use native.Mathlib.Omega.{arith}
-use native.Mathlib.Nat.{add-assoc}
 use lib.ListN.{length, take, drop, length-append, length-take, length-drop}
 use lib.Seq.{take-at, drop-at, drop-drop, take-append-seam, length-take-le}
-use Rattle.form.specs.Octets.{Octets, toBe}
+use Rattle.form.specs.Octets.{toBe}
 use Rattle.form.specs.Fmt.{Fmt, join}
-use Rattle.form.specs.Body.{Body, plain, loose, listed, many, joins, spell, AllFits, BodyFits}
+use Rattle.form.specs.Body.{Body, listed, many, joins, spell, AllFits, BodyFits}
 use Rattle.form.specs.Record.{Rec, write, size}
 use Rattle.form.specs.Put as put
 use Rattle.form.specs.Gives.{tailOf}
@@ -18,7 +17,7 @@ use Rattle.shown.specs.declared.Part.{Part}
 use Rattle.reading.specs.Answer.{within}
 use Rattle.moving.specs.Found.{Lie, items}
 use Rattle.moving.specs.One.{itemsLeft}
-use Rattle.cut_laws.proofs.Found.{Here, lie-of}
+use Rattle.cut_laws.proofs.Found.{lie-of}
 
 -- the record with other items
 abbrev pub withItems : Rec → List (List ℕ) → List (List (List ℕ)) → Rec

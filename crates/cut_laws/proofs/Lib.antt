@@ -10,3 +10,4 @@ pub mod Items
 pub mod Tables
 pub mod Ribs
 pub mod Answers
+pub mod Demand3

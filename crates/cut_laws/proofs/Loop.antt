@@ -1,18 +1,16 @@
 -- The loops over a dump's records: what is left of the records passed, and the cut of those to come, are the whole. Assumes nothing.
-use mathlib.Core.Path.{_≡_, refl, sym, ap, _∙_, subst}
-use mathlib.Core.Bool.{Bool, true, false}
+use mathlib.Core.Path.{_≡_, refl, sym, ap, _∙_}
 use mathlib.Core.List.{List, [], _∷_, _++_}
 use mathlib.Core.Option.{Option, none, some}
-use Prim.Native.Nat.{ℕ, zero, suc, _+_, _-_, _≤_, _<_}
+use Prim.Native.Nat.{ℕ, _+_, _-_, _≤_, _<_}
 use native.Mathlib.Omega.{arith}
-use lib.ListN.{length, take, drop, getD, length-append, length-drop, drop-of-length-le}
+use lib.ListN.{length, drop, length-append, length-drop}
 use lib.Seq.{drop-append-seam, drop-drop}
-use Rattle.form.specs.Octets.{Octets}
-use Rattle.form.specs.Fmt.{Out, bad, good}
-use Rattle.form.specs.Body.{Body, spell}
-use Rattle.form.specs.Shape.{Layout, St, noTable, peersOf}
+use Rattle.form.specs.Fmt.{good}
+use Rattle.form.specs.Body.{Body}
+use Rattle.form.specs.Shape.{Layout, St, noTable}
 use Rattle.form.specs.Record.{Rec, write, size, readRec, Valid, layoutOf, next, timeOf}
-use Rattle.form.specs.Dump.{writes, Valids, Splits, walkAll}
+use Rattle.form.specs.Dump.{writes, Valids, Splits}
 use Rattle.form.proofs.Record.{length-write, complete-rec}
 use Rattle.form.proofs.Dump.{writes-append, shows}
 use Rattle.cutting.specs.Cut.{Cut, numbers, cutBody, rebody, cutRecs, cut}

@@ -2,7 +2,7 @@
 use mathlib.Core.Path.{_≡_, refl, sym, ap, _∙_}
 use mathlib.Core.Bool.{Bool, true, false, cond}
 use mathlib.Core.List.{List, [], _∷_, _++_}
-use Prim.Native.Nat.{ℕ, zero, suc, _+_, _-_, _≤_, _<_}
+use Prim.Native.Nat.{ℕ, zero, suc, _+_, _-_, _≤_}
 use native.Mathlib.Omega.{arith}
 use lib.Dec.{ltb, eqb}
 use lib.ListN.{length, take, drop, length-drop, take-append-drop}
@@ -18,7 +18,6 @@ use Rattle.flow.specs.declared.Num.the-variants as one
 use Rattle.page.specs.Layout.{kind}
 use Rattle.page.specs.declared.Kind.{Kind}
 use Rattle.page.specs.declared.Kind.the-variants as chosen
-use Rattle.shown.specs.declared.Header.{Header}
 use Rattle.shown.specs.declared.Table.{Table}
 use Rattle.shown.specs.declared.Table.the-variants.{Absent, Holds}
 use Rattle.shown.specs.declared.Shown.{Shown}

@@ -1,5 +1,5 @@
 -- A RIB record keeps the entries of the peers that stay, renumbered, and goes where it had entries and lost them all. Assumes nothing.
-use mathlib.Core.Path.{_≡_, refl, sym, ap, ap₂, _∙_, subst}
+use mathlib.Core.Path.{_≡_, refl, ap, _∙_, subst}
 use mathlib.Core.Bool.{Bool, true, false, cond, _&&_, _||_}
 use mathlib.Core.List.{List, [], _∷_, append-nil}
 use Prim.Native.Nat.{ℕ, suc, _+_, _-_, _≤_, _<_}
@@ -9,8 +9,8 @@ use lib.ListN.{length, drop}
 use borrow.Author.Tests.{lt-ltb, ne-eqb}
 use Rattle.form.specs.Octets.{Octets}
 use Rattle.form.specs.Fmt.{Fmt, end, Fits}
-use Rattle.form.specs.Body.{Body, plain, loose, listed, many, joins, AllFits, BodyFits}
-use Rattle.form.specs.Shape.{Layout, entries, St, noTable, peersOf, plan, after, indexed}
+use Rattle.form.specs.Body.{Body, plain, listed, many, joins, BodyFits}
+use Rattle.form.specs.Shape.{Layout, entries, St, noTable, peersOf, plan, after}
 use Rattle.form.specs.Record.{Rec, write, size, next, timeOf}
 use Rattle.form.specs.Dump.{writes}
 use Rattle.form.specs.Put as put
@@ -54,8 +54,8 @@ left-entries : (lay : ℕ → ℕ → Layout) (c : Cut) (ns : List ℕ) (r : Rec
 unfolding cutBody next after
 left-entries lay c ns r f g cs its jts e b j = (
   ap (λ (l : Layout). writes (rebody r (cutBody c ns l (timeOf lay r) (r .body)) [])) e
-  ∙ ap (λ (y : Body). writes (rebody r (cutBody c ns (entries f g) (timeOf lay r) y) [])) b
-  ∙ rw j (emptied-left r cs its (cutEntries (c .gone) ns its) (c .inside (timeOf lay r))),
+      ∙ ap (λ (y : Body). writes (rebody r (cutBody c ns (entries f g) (timeOf lay r) y) [])) b
+      ∙ rw j (emptied-left r cs its (cutEntries (c .gone) ns its) (c .inside (timeOf lay r))),
   ap (λ (l : Layout). after l (r .body) (peersOf ns)) e,
 )
 

@@ -15,7 +15,6 @@ use Rattle.page.specs.Peers.{tableHead, peer}
 use Rattle.page.specs.Layout.{kind, layoutOf, layout}
 use Rattle.shown.specs.declared.Header.{Header}
 use Rattle.shown.specs.declared.Peers.{Peers}
-use Rattle.shown.specs.declared.Shown.{Shown}
 use Rattle.shown.specs.declared.Shown.the-variants.{PeerTable}
 use Rattle.shown.specs.declared.Table.{Table}
 use Rattle.shown.specs.declared.Table.the-variants.{Holds}
@@ -40,8 +39,8 @@ left-table : (lay : ℕ → ℕ → Layout) (c : Cut) (st : St) (r : Rec) (f g :
 unfolding cutBody next after
 left-table lay c st r f g cs its e b = (
   ap (λ (l : Layout). writes (rebody r (cutBody c (numbers st) l (timeOf lay r) (r .body)) [])) e
-  ∙ ap (λ (y : Body). writes (rebody r (cutBody c (numbers st) (table f g) (timeOf lay r) y) [])) b
-  ∙ append-nil (write (withItems r cs (kept (λ it. c .gone (asOf g it)) its))),
+      ∙ ap (λ (y : Body). writes (rebody r (cutBody c (numbers st) (table f g) (timeOf lay r) y) [])) b
+      ∙ append-nil (write (withItems r cs (kept (λ it. c .gone (asOf g it)) its))),
   ap (λ (l : Layout). after l (r .body) st) e ∙ ap (λ (y : Body). after (table f g) y st) b,
 )
 

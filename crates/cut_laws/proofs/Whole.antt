@@ -1,17 +1,16 @@
 -- Records that stay whole or go: contents that are carried unread, and types 12, 16 and 17. Assumes nothing.
-use mathlib.Core.Path.{_≡_, refl, sym, ap, _∙_, subst}
+use mathlib.Core.Path.{_≡_, refl, ap, _∙_}
 use mathlib.Core.Bool.{Bool, true, false, cond, not, _&&_}
-use mathlib.Core.Logic.{_⊎_, inl, inr}
-use mathlib.Core.Option.{Option, none, some}
+use mathlib.Core.Logic.{inl, inr}
+use mathlib.Core.Option.{some}
 use mathlib.Core.List.{List, [], _∷_, _++_, append-nil}
-use Prim.Native.Nat.{ℕ, zero, suc, _+_, _^_, _≤_, _<_}
+use Prim.Native.Nat.{ℕ, zero, suc, _+_, _^_, _<_}
 use native.Mathlib.Omega.{arith}
 use lib.Dec.{leb, ltb}
 use lib.ListN.{length, take, drop}
 use Rattle.form.specs.Octets.{Octets, be, toBe}
 use Rattle.form.specs.Fmt.{Fmt, find}
 use Rattle.form.specs.Words.{num, skip, checked, choose}
-use Rattle.form.specs.Body.{Body}
 use Rattle.form.specs.Shape.{Layout, fields, unread, St, after, frontOf, peerAs}
 use Rattle.form.specs.Record.{Rec, write, size, next, timeOf}
 use Rattle.form.specs.Dump.{writes}
@@ -38,10 +37,9 @@ use Rattle.writing.specs.declared.Time.{Time}
 use Rattle.writing.specs.declared.Time.the-variants.{Seconds, Micro}
 use Rattle.round_trip.specs.Tells.{Tells}
 use Rattle.round_trip.specs.Again.{finer, clock}
-use Rattle.round_trip.specs.Agrees.{Same}
 use Rattle.round_trip.proofs.Choice.{Bgp, kind-says}
-use Rattle.cutting.specs.Cut.{Cut, mem, cutting, numbers, when, muted, cutBody, rebody}
-use Rattle.moving.specs.One.{Reads, recOf, cutOne}
+use Rattle.cutting.specs.Cut.{Cut, mem, cutting, when, cutBody, rebody}
+use Rattle.moving.specs.One.{recOf, cutOne}
 use Rattle.cut_laws.proofs.Shows.{Shows, shows}
 
 -- ---- the kind, by its writer
