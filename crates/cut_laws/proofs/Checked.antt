@@ -66,6 +66,10 @@ module _ (layout : ℕ → ℕ → Layout) where
       ∙ ap length (writes-append (cutRecs layout c st rs) (cutOne layout c (nexts layout rs st) r))
       ∙ length-append (writes (cutRecs layout c st rs)) (writes (cutOne layout c (nexts layout rs st) r))
 
+  -- and is no longer than it
+  pub one-less : (c : Cut) (st : St) (r : Rec) → Valid layout st r → length (writes (cutOne layout c st r)) ≤ size r
+  one-less c st r v = omega (arith, less-recs layout c st (r ∷ []) (v, tt), ap length (append-nil (write r)), length-write r)
+
 -- at `at` of d, behind whole records, where st is in force and the cut of those records has `total` octets
 pub record Measuring (layout : ℕ → ℕ → Layout) (c : Cut) (d : List ℕ) (st : St) (at total : ℕ) : Type 0 where
   pub within : at ≤ length d
@@ -110,6 +114,12 @@ module _ (layout : ℕ → ℕ → Layout) (c : Cut) (d : List ℕ) where
           let f = read-of layout st (drop at d) (octets-drop at d oc) h in
           let g = alike-good (recOf layout st (drop at d)) (f .rest) (readRec layout st at (drop at d)) (rw (f .reads) at (alike-record layout st 0 at (drop at d))) in
           good-fits layout st at d (recOf layout st (drop at d)) (f .rest) oc (m .within) g
+
+      -- what is left so far, with that of the record, is no longer than the dump
+      pub check-total : Reads layout st (drop at d) → total + length (writes (cutOne layout c st (recOf layout st (drop at d)))) ≤ length d
+      check-total h =
+          let f = read-of layout st (drop at d) (octets-drop at d oc) h in
+          omega (arith, check-few st at total m, check-inside h, one-less layout c st (recOf layout st (drop at d)) (f .valid))
 
       pub check-turn : (su : St) (n k : ℕ) → Reads layout st (drop at d) → n ≡ size (recOf layout st (drop at d)) → k ≡ length (writes (cutOne layout c st (recOf layout st (drop at d))))
           → su ≡ next layout (recOf layout st (drop at d)) st → Measuring layout c d su (at + n) (total + k)

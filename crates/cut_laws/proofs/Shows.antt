@@ -20,6 +20,7 @@ use Rattle.reading.specs.One.{readOne}
 use Rattle.round_trip.specs.Tells.{Tells}
 use Rattle.round_trip.specs.Agrees.{Agrees, Same}
 use Rattle.round_trip.proofs.One.{one-record}
+use Rattle.moving.specs.Found.{Accepted}
 use Rattle.moving.specs.One.{Reads, recOf}
 use Rattle.cut_laws.proofs.Checked.{Read, is-rec, first, read-good}
 
@@ -81,3 +82,11 @@ module _ (most : ℕ) (d : List ℕ) (oc : Octets d) (at : ℕ) (more : at < len
       go : (o : Out Rec) → Agrees most s o Nothing → ⊥
       go (bad n p) a = differ n p a
       go (good r q) a = omega (arith, a .ends)
+
+  -- where a record is known to stand, none is refused
+  pub shows-good : Reads (layout most) st s → (n p : ℕ) → readOne most t s ≡ Refused n p → ⊥
+  unfolding Reads
+  shows-good h n p e = go (readRec (layout most) st 0 s) h (shows-fault n p e)
+    where
+      go : (o : Out Rec) → Accepted o → o ≡ bad n p → ⊥
+      go (good r q) a z = let y : _≡_ {A = ℕ} 0 1 = cc in omega arith
