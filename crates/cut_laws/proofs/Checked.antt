@@ -4,9 +4,9 @@ use mathlib.Core.List.{List, [], _∷_, _++_, append-assoc, append-nil}
 use Prim.Native.Nat.{ℕ, _+_, _≤_, _<_}
 use native.Mathlib.Omega.{arith}
 use lib.ListN.{length, take, drop, length-append, length-take}
-use lib.Seq.{take-at, take-add, take-all}
+use lib.Seq.{take-add, take-all}
 use Rattle.form.specs.Octets.{Octets}
-use Rattle.form.specs.Fmt.{Out, bad, good}
+use Rattle.form.specs.Fmt.{bad}
 use Rattle.form.specs.Shape.{Layout, St, noTable}
 use Rattle.form.specs.Record.{Rec, write, size, readRec, Valid, next}
 use Rattle.form.specs.Dump.{writes, Valids, Splits, nexts, walkFrom, walkAll}
@@ -18,46 +18,14 @@ use Rattle.form.proofs.Dump.{writes-append, valids-append, walk-bad, walk-good,
 use Rattle.walking.specs.Walked.{befores}
 use Rattle.cutting.specs.Cut.{Cut, cutRecs, cut}
 use Rattle.cutting.proofs.Cut.{cut-append, less-recs}
-use Rattle.moving.specs.Found.{Accepted}
 use Rattle.moving.specs.One.{Reads, recOf, cutOne}
+use Rattle.cut_laws.proofs.Read.{read-of}
 
 nexts-append : (layout : ℕ → ℕ → Layout) (rs qs : List Rec) (st : St) → nexts layout (rs ++ qs) st ≡ nexts layout qs (nexts layout rs st)
 nexts-append layout [] qs st = refl
 nexts-append layout (r ∷ rs) qs st = nexts-append layout rs qs (next layout r st)
 
-pub first : (r : Rec) (q bs : List ℕ) → write r ++ q ≡ bs → take (size r) bs ≡ write r
-first r q bs e = rw (← e) (take-at (write r) q (size r) (length-write r))
-
 module _ (layout : ℕ → ℕ → Layout) where
-  -- a record that lies at the front of bs
-  pub record Read (st : St) (bs : List ℕ) : Type 0 where
-    pub rest : List ℕ
-    pub reads : readRec layout st 0 bs ≡ good (recOf layout st bs) rest
-    pub valid : Valid layout st (recOf layout st bs)
-    pub lie : write (recOf layout st bs) ++ rest ≡ bs
-    pub octets : take (size (recOf layout st bs)) bs ≡ write (recOf layout st bs)
-
-  pub is-rec : (st : St) (bs : List ℕ) (r : Rec) (q : List ℕ) → readRec layout st 0 bs ≡ good r q → Reads layout st bs × (recOf layout st bs ≡ r)
-  unfolding Reads recOf
-  is-rec st bs r q e = rw e (tt, refl)
-
-  -- what is read is accepted
-  pub accepted-of : (st : St) (bs : List ℕ) → Reads layout st bs → (r : Rec) × (q : List ℕ) × (readRec layout st 0 bs ≡ good r q)
-  unfolding Reads
-  accepted-of st bs h = go (readRec layout st 0 bs) refl h
-    where
-      go : (o : Out Rec) → readRec layout st 0 bs ≡ o → Accepted o → (r : Rec) × (q : List ℕ) × (readRec layout st 0 bs ≡ good r q)
-      go (good r q) e a = (r, q, e)
-
-  pub read-good : (st : St) (bs : List ℕ) (r : Rec) (q : List ℕ) → Octets bs → readRec layout st 0 bs ≡ good r q → Read st bs
-  read-good st bs r q oc e =
-      let z : recOf layout st bs ≡ r = is-rec st bs r q e .1 in
-      let w : Right (Valid layout st) write bs (good r q) = rw e at (sound-rec layout st 0 bs oc) in
-      record { rest = q; reads = rw z e; valid = rw z (w .0); lie = rw z (w .1); octets = rw z (first r q bs (w .1)) }
-
-  pub read-of : (st : St) (bs : List ℕ) → Octets bs → Reads layout st bs → Read st bs
-  read-of st bs oc h = let a = accepted-of st bs h in read-good st bs (a .0) (a .1) oc (a .2)
-
   -- what is left of a record behind others is left of it alone, where their table is in force
   pub cut-snoc : (c : Cut) (st : St) (rs : List Rec) (r : Rec)
       → length (writes (cutRecs layout c st (rs ++ (r ∷ [])))) ≡ length (writes (cutRecs layout c st rs)) + length (writes (cutOne layout c (nexts layout rs st) r))

@@ -1,6 +1,7 @@
 pub mod Found
 pub mod Moved
 pub mod Filled
+pub mod Read
 pub mod Loop
 pub mod Checked
 pub mod Rest
