@@ -6,6 +6,7 @@ pub mod Loop
 pub mod Checked
 pub mod Rest
 pub mod Shows
+pub mod Wrote
 pub mod Whole
 pub mod Items
 pub mod Tables

@@ -34,7 +34,8 @@ use Rattle.moving.specs.One.{Ranked, recOf, cutOne, itemsLeft}
 use Rattle.cut_laws.proofs.Filled.{ranked-cut}
 use Rattle.cut_laws.proofs.Rest.{Rested, rested}
 use Rattle.cut_laws.proofs.Shows.{Shows, shows}
-use Rattle.cut_laws.proofs.Whole.{wrote}
+use Rattle.cut_laws.proofs.Wrote.{wrote}
+use Rattle.cut_laws.proofs.Whole.{length-cond}
 use Rattle.cut_laws.proofs.Items.{withItems, Held, held}
 
 -- ---- one record, for every layout
@@ -81,6 +82,9 @@ pub record RibLeft (most from to : ℕ) (ms news d : List ℕ) (at : ℕ) (st : 
   pub left : writes (cutOne (layout most) (cutting from to ms) st (recOf (layout most) st (drop at d)))
       ≡ cond (leb from (time h) && ltb (time h) to)
       (cond (eqb (e .count) 0 || ltb 0 (length (entriesLeft news d at st e))) (itemsLeft d at (e .entries .at - 14) (entriesLeft news d at st e)) []) []
+  pub sized : length (writes (cutOne (layout most) (cutting from to ms) st (recOf (layout most) st (drop at d))))
+      ≡ cond (leb from (time h) && ltb (time h) to)
+      (cond (eqb (e .count) 0 || ltb 0 (length (entriesLeft news d at st e))) (e .entries .at + length (joins (entriesLeft news d at st e))) 0) 0
   pub fewer : length (entriesLeft news d at st e) ≤ e .count
   pub less : length (joins (entriesLeft news d at st e)) ≤ length (joins (entriesIn d at st e))
   pub next : next (layout most) (recOf (layout most) st (drop at d)) st ≡ st
@@ -105,12 +109,17 @@ module _ (most from to : ℕ) (ms news d : List ℕ) (at : ℕ) where
       let its : List (List (List ℕ)) = entriesIn d at st e in
       let j : moved news its ≡ cutEntries (λ n. mem n ms) ns its = ranked-cut (λ n. mem n ms) ns entryRest news k its (i .fit) in
       let z = left-entries (layout most) (cutting from to ms) ns r f entryRest (i .fields) its (moved news its) l (i .body) j in
+      let b : Bool = leb from (time h) && ltb (time h) to in
+      let some : Bool = eqb (e .count) 0 || ltb 0 (length (moved news its)) in
+      let q : writes (cutOne (layout most) (cutting from to ms) st r) ≡ cond b (cond some (itemsLeft d at (e .entries .at - 14) (moved news its)) []) [] =
+      z .0 ∙ rw (i .many, ← clock, i .other (moved news its)) in
       let u = cutEntries-less (λ n. mem n ms) ns entryRest its (i .fit) in
       record {
         shown = w;
         table = refl;
         held = i;
-        left = z .0 ∙ rw (i .many, ← clock, i .other (moved news its));
+        left = q;
+        sized = ap length q ∙ length-cond b _ ∙ ap (λ (k : ℕ). cond b k 0) (length-cond some _ ∙ ap (λ (k : ℕ). cond some k 0) (i .long (moved news its)));
         fewer = rw j (omega (arith, u .0, i .many));
         less = rw j (u .1);
         next = z .1;

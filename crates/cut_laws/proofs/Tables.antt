@@ -31,7 +31,7 @@ use Rattle.moving.specs.One.{told, Ranked, recOf, cutOne, itemsLeft}
 use Rattle.cut_laws.proofs.Filled.{filled}
 use Rattle.cut_laws.proofs.Rest.{Rested, rested}
 use Rattle.cut_laws.proofs.Shows.{Shows, shows}
-use Rattle.cut_laws.proofs.Whole.{wrote}
+use Rattle.cut_laws.proofs.Wrote.{wrote}
 use Rattle.cut_laws.proofs.Items.{withItems, Held, held}
 
 left-table : (lay : ℕ → ℕ → Layout) (c : Cut) (st : St) (r : Rec) (f g : Fmt) (cs : List (List ℕ)) (its : List (List (List ℕ))) → lay (r .type) (r .sub) ≡ table f g → r .body ≡ listed cs its
@@ -56,6 +56,7 @@ pub record TableLeft (most from to : ℕ) (ms d : List ℕ) (at : ℕ) (st : St)
   pub shown : Shows most d at st (PeerTable h p)
   pub held : Held d at (recOf (layout most) st (drop at d)) peer (p .peers .at) (p .count)
   pub left : writes (cutOne (layout most) (cutting from to ms) st (recOf (layout most) st (drop at d))) ≡ itemsLeft d at (p .peers .at - 14) (peersLeft ms d at p)
+  pub sized : length (writes (cutOne (layout most) (cutting from to ms) st (recOf (layout most) st (drop at d)))) ≡ p .peers .at + length (joins (peersLeft ms d at p))
   pub fewer : length (peersLeft ms d at p) ≤ p .count
   pub less : length (joins (peersLeft ms d at p)) ≤ length (joins (peersIn d at p))
   pub next : next (layout most) (recOf (layout most) st (drop at d)) st ≡ told peer d true (at + p .peers .at) (p .count)
@@ -85,6 +86,7 @@ module _ (most from to : ℕ) (ms d : List ℕ) (oc : Octets d) (at : ℕ) (more
         shown = w;
         held = i;
         left = z .0 ∙ i .other (peersLeft ms d at p);
+        sized = ap length (z .0 ∙ i .other (peersLeft ms d at p)) ∙ i .long (peersLeft ms d at p);
         fewer = omega (arith, kept-length (λ it. mem (asOf peer it) ms) (peersIn d at p), i .many);
         less = joins-kept (λ it. mem (asOf peer it) ms) (peersIn d at p);
         next = z .1;

@@ -4,10 +4,11 @@ use mathlib.Core.Bool.{Bool, true, false, cond, not, _&&_}
 use mathlib.Core.Logic.{inl, inr}
 use mathlib.Core.Option.{some}
 use mathlib.Core.List.{List, [], _∷_, _++_, append-nil}
-use Prim.Native.Nat.{ℕ, zero, suc, _+_, _^_, _<_}
+use Prim.Native.Nat.{ℕ, _^_, _≤_, _<_}
 use native.Mathlib.Omega.{arith}
 use lib.Dec.{leb, ltb}
-use lib.ListN.{length, take, drop}
+use lib.ListN.{length, take, drop, length-drop}
+use lib.Seq.{length-take-le}
 use Rattle.form.specs.Octets.{Octets, be, toBe}
 use Rattle.form.specs.Fmt.{Fmt, find}
 use Rattle.form.specs.Words.{num, skip, checked, choose}
@@ -20,8 +21,6 @@ use Rattle.form.proofs.Octets.{be-toBe}
 use Rattle.page.specs.Bgp4mp.{session}
 use Rattle.page.specs.TableDump.{tableDump, tableDumpRest}
 use Rattle.page.specs.Layout.{kind, layoutOf, layout, stamped}
-use Rattle.page.specs.declared.Kind.{Kind}
-use Rattle.page.specs.declared.Kind.the-variants as chosen
 use Rattle.shown.specs.declared.Part.{Part}
 use Rattle.shown.specs.declared.Header.{Header}
 use Rattle.shown.specs.declared.Session.{Session}
@@ -32,7 +31,6 @@ use Rattle.shown.specs.declared.Table.{Table}
 use Rattle.reading.specs.Answer.{place, time}
 use Rattle.reading.specs.One.{readOne}
 use Rattle.writing.specs.Times.{microOf, micros}
-use Rattle.writing.specs.Only.{writer}
 use Rattle.writing.specs.declared.Time.{Time}
 use Rattle.writing.specs.declared.Time.the-variants.{Seconds, Micro}
 use Rattle.round_trip.specs.Tells.{Tells}
@@ -40,39 +38,8 @@ use Rattle.round_trip.specs.Again.{finer, clock}
 use Rattle.round_trip.proofs.Choice.{Bgp, kind-says}
 use Rattle.cutting.specs.Cut.{Cut, mem, cutting, when, cutBody, rebody}
 use Rattle.moving.specs.One.{recOf, cutOne}
+use Rattle.cut_laws.proofs.Wrote.{wrote, wrote-unread}
 use Rattle.cut_laws.proofs.Shows.{Shows, shows}
-
--- ---- the kind, by its writer
-
-abbrev pub Wrote : ℕ → Kind → Type 0
-Wrote zero k = Unit
-Wrote (suc zero) k = (size : ℕ) × (k ≡ chosen.TableDump size)
-Wrote (suc (suc zero)) k = k ≡ chosen.PeerTable
-Wrote (suc (suc (suc zero))) k = (bits : ℕ) × (k ≡ chosen.Rib bits)
-Wrote (suc (suc (suc (suc zero)))) k = k ≡ chosen.RibGeneric
-Wrote (suc (suc (suc (suc (suc zero))))) k = (micro : ℕ) × (w : ℕ) × (k ≡ chosen.Change micro w)
-Wrote (suc (suc (suc (suc (suc (suc zero)))))) k = (micro : ℕ) × (w : ℕ) × (k ≡ chosen.Message micro w)
-Wrote (suc (suc (suc (suc (suc (suc (suc n))))))) k = Unit
-
-pub wrote : (k : Kind) (n : ℕ) → n ≡ writer k → n < 7 → Wrote n k
-wrote (chosen.Refused n p) w e h = rw e tt
-wrote (chosen.Unread micro) w e h = absurd (omega arith)
-wrote (chosen.TableDump size) w e h = rw e (size, refl)
-wrote chosen.PeerTable w e h = rw e refl
-wrote (chosen.Rib bits) w e h = rw e (bits, refl)
-wrote chosen.RibGeneric w e h = rw e refl
-wrote (chosen.Change micro v) w e h = rw e (micro, v, refl)
-wrote (chosen.Message micro v) w e h = rw e (micro, v, refl)
-
-wrote-unread : (k : Kind) (n : ℕ) → 7 + n ≡ writer k → (micro : ℕ) × (k ≡ chosen.Unread micro)
-wrote-unread (chosen.Refused m p) n e = absurd (omega arith)
-wrote-unread (chosen.Unread micro) n e = (micro, refl)
-wrote-unread (chosen.TableDump size) n e = absurd (omega arith)
-wrote-unread chosen.PeerTable n e = absurd (omega arith)
-wrote-unread (chosen.Rib bits) n e = absurd (omega arith)
-wrote-unread chosen.RibGeneric n e = absurd (omega arith)
-wrote-unread (chosen.Change micro v) n e = absurd (omega arith)
-wrote-unread (chosen.Message micro v) n e = absurd (omega arith)
 
 -- ---- the peer's AS number in the fields
 
@@ -98,7 +65,12 @@ micro-clock h y micro e (inr (a, b)) = let z : h .ty ≡ 17 = e ∙ a in rw (b, 
 pub record Whole (most from to : ℕ) (ms d : List ℕ) (at : ℕ) (st : St) (x : Shown) (stays : Bool) : Type 0 where
   pub shown : Shows most d at st x
   pub left : writes (cutOne (layout most) (cutting from to ms) st (recOf (layout most) st (drop at d))) ≡ cond stays (take (place x) (drop at d)) []
+  pub sized : length (writes (cutOne (layout most) (cutting from to ms) st (recOf (layout most) st (drop at d)))) ≡ cond stays (place x) 0
   pub next : next (layout most) (recOf (layout most) st (drop at d)) st ≡ st
+
+pub length-cond : (b : Bool) (xs : List ℕ) → length (cond b xs []) ≡ cond b (length xs) 0
+length-cond true xs = refl
+length-cond false xs = refl
 
 left-whole : (r : Rec) (b : Bool) → writes (rebody r (when b (some (r .body))) []) ≡ cond b (write r) []
 left-whole r true = append-nil (write r)
@@ -123,7 +95,10 @@ module _ (most from to : ℕ) (ms d : List ℕ) (oc : Octets d) (at : ℕ) (more
 
   -- from what is left of the record, in the reader's terms
   whole : (x : Shown) → Shows most d at st x → (b : Bool) → (writes (cutOne (layout most) c st r) ≡ cond b (write r) []) × (next (layout most) r st ≡ st) → Whole most from to ms d at st x b
-  whole x h b l = record { shown = h; left = rw (h .octets) (l .0); next = l .1 }
+  whole x h b l =
+      let e : writes (cutOne (layout most) c st r) ≡ cond b (take (place x) (drop at d)) [] = rw (h .octets) (l .0) in
+      let k : place x ≤ length (drop at d) = rw length-drop (omega (arith, h .inside)) in
+      record { shown = h; left = e; sized = ap length e ∙ length-cond b (take (place x) (drop at d)) ∙ rw (length-take-le (place x) (drop at d) k); next = l .1 }
 
   pub unread-left : (h : Header) (p : Part) → readOne most t (drop at d) ≡ Unread h p → Whole most from to ms d at st (Unread h p) (leb from (time h) && ltb (time h) to)
   unfolding layout layoutOf
