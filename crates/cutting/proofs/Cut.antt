@@ -45,7 +45,7 @@ cond-ok true n z e = refl
 cond-ok false n z e = absurd (z e)
 
 -- an entry's index is below the table's count, and any other that is may take its place
-entry-index : (n : ℕ) (g : Fmt) (it : List (List ℕ)) → Fits (indexed n g) it → (indexOf it < n) × (indexOf it < 65536)
+pub entry-index : (n : ℕ) (g : Fmt) (it : List (List ℕ)) → Fits (indexed n g) it → (indexOf it < n) × (indexOf it < 65536)
 unfolding Fits checked
 entry-index n g (c ∷ cs) h = (ltb-true _ _ (cond-ok (ltb (be c) n) 13 (λ z. omega arith) (h .2 .0)), be-below 2 c (h .0) (h .1))
 
@@ -69,7 +69,7 @@ module _ (g : ℕ → Bool) (ns : List ℕ) (f : Fmt) where
           let k = entry-index (length ns) f it (h .0) in
           (entry-renumber (length ns) (length (kept g ns)) (rank g ns (indexOf it)) f it (h .0) (rank-lt g ns (indexOf it) (k .0) e) (omega (arith, rank-le g ns (indexOf it))), q)
 
-  cutEntries-less : (its : List (List (List ℕ))) → AllFits (indexed (length ns) f) its
+  pub cutEntries-less : (its : List (List (List ℕ))) → AllFits (indexed (length ns) f) its
       → (length (cutEntries g ns its) ≤ length its) × (length (joins (cutEntries g ns its)) ≤ length (joins its))
   cutEntries-less [] h = (omega arith, omega arith)
   cutEntries-less (it ∷ its) h = go (g (getD ns (indexOf it) 0)) (cutEntries-less its (h .1))
@@ -80,7 +80,7 @@ module _ (g : ℕ → Bool) (ns : List ℕ) (f : Fmt) where
       go true q = (omega arith, simp length-append (omega arith))
       go false q = (omega arith, simp length-append (omega (arith, renumber-length (length ns) (rank g ns (indexOf it)) f it (h .0))))
 
-allFits-kept : (p : List (List ℕ) → Bool) (f : Fmt) (its : List (List (List ℕ))) → AllFits f its → AllFits f (kept p its)
+pub allFits-kept : (p : List (List ℕ) → Bool) (f : Fmt) (its : List (List (List ℕ))) → AllFits f its → AllFits f (kept p its)
 allFits-kept p f [] h = tt
 allFits-kept p f (it ∷ its) h = go (p it) (allFits-kept p f its (h .1))
   where
@@ -88,7 +88,7 @@ allFits-kept p f (it ∷ its) h = go (p it) (allFits-kept p f its (h .1))
     go true q = q
     go false q = (h .0, q)
 
-joins-kept : (p : List (List ℕ) → Bool) (its : List (List (List ℕ))) → length (joins (kept p its)) ≤ length (joins its)
+pub joins-kept : (p : List (List ℕ) → Bool) (its : List (List (List ℕ))) → length (joins (kept p its)) ≤ length (joins its)
 joins-kept p [] = omega arith
 joins-kept p (it ∷ its) = go (p it) (joins-kept p its)
   where
@@ -312,20 +312,20 @@ module _ (layout : ℕ → ℕ → Layout) where
       (cut-valid c (next layout r st) rs (v .1)) (cut-twice c d (next layout r st) rs (v .1))
       ∙ ap (λ (o : Option Body). rebody r o (cutRecs layout (both c d) (next layout r st) rs)) (twice-body c d st (layoutOf layout r) (timeOf layout r) (r .body) (v .0 .fits))
 
-  cut-append : (c : Cut) (st : St) (rs qs : List Rec) → cutRecs layout c st (rs ++ qs) ≡ cutRecs layout c st rs ++ cutRecs layout c (nexts layout rs st) qs
+  pub cut-append : (c : Cut) (st : St) (rs qs : List Rec) → cutRecs layout c st (rs ++ qs) ≡ cutRecs layout c st rs ++ cutRecs layout c (nexts layout rs st) qs
   cut-append c st [] qs = refl
   cut-append c st (r ∷ rs) qs =
       rw (cut-append c (next layout r st) rs qs)
       (rebody-append r (cutBody c (numbers st) (layoutOf layout r) (timeOf layout r) (r .body)) (cutRecs layout c (next layout r st) rs) (cutRecs layout c (nexts layout rs (next layout r st)) qs))
 
-  less-recs : (c : Cut) (st : St) (rs : List Rec) → Valids layout st rs → length (writes (cutRecs layout c st rs)) ≤ length (writes rs)
+  pub less-recs : (c : Cut) (st : St) (rs : List Rec) → Valids layout st rs → length (writes (cutRecs layout c st rs)) ≤ length (writes rs)
   less-recs c st [] v = omega arith
   less-recs c st (r ∷ rs) v =
       less-rebody c st (layoutOf layout r) r (cutRecs layout c (next layout r st) rs) rs _ (is c st r (v .0)) (less-recs c (next layout r st) rs (v .1))
 
   -- ---- the laws, of dumps
 
-  cut-of : (c : Cut) (rs : List Rec) → Valids layout noTable rs → cut layout c (writes rs) ≡ writes (cutRecs layout c noTable rs)
+  pub cut-of : (c : Cut) (rs : List Rec) → Valids layout noTable rs → cut layout c (writes rs) ≡ writes (cutRecs layout c noTable rs)
   unfolding cut
   cut-of c rs v = rw (shows layout (writes rs) rs v refl)
 
