@@ -2,12 +2,11 @@
 use mathlib.Core.Path.{_≡_, sym, ap, _∙_}
 use mathlib.Core.Bool.{Bool, true, false, cond}
 use mathlib.Core.List.{List, [], _++_}
-use Prim.Native.Nat.{ℕ, _+_, _-_, _/_, _%_, _≤_, _<_}
+use Prim.Native.Nat.{ℕ, _+_, _-_, _≤_, _<_}
 use native.Mathlib.Omega.{arith}
 use native.Mathlib.Numerals.{add-one}
-use lib.ListN.{length, take, drop, getD, length-append, length-take, length-drop, drop-of-length-le}
+use lib.ListN.{length, take, drop, getD, length-drop, drop-of-length-le}
 use lib.Seq.{drop-cons, drop-drop, length-take-le}
-use lib.Dec.{eqb}
 use borrow.Author.Tests.{eq-eqb, ne-eqb}
 use Rattle.form.specs.Octets.{toBe, Octets}
 use Rattle.form.specs.Fmt.{join}
@@ -18,7 +17,7 @@ use Rattle.page.specs.Rib.{entry}
 use Rattle.page.specs.Peers.{peer}
 use Rattle.num.specs.Be.{numAt}
 use Rattle.copy.specs.Over.{over}
-use Rattle.copy.proofs.Laws.{more}
+use Rattle.copy.proofs.Laws.{more, over-none}
 use Rattle.moving.specs.Found.{Lies, item}
 use Rattle.moving.proofs.Found.{item-octets}
 use Rattle.moving.proofs.Entry.{entry-there}
@@ -66,6 +65,12 @@ renumbered m at n k it out l out′ put size e es h a b =
     let lx : length x ≡ size - 2 = length-take-le (size - 2) (drop (at + 2) m) (simp length-drop (omega (arith, e .room, e .size))) in
     more out (toBe 2 k) x l out′ put (put + 2) a b (omega arith) (omega (arith, e .size)) ∙ ap (over out put) (sym (rw (← es) at (e .again k)))
 
+-- the entry with its new index k, or nothing
+pub laid : (t : Bool) (k n : ℕ) (it : List (List ℕ)) (out out′ : List ℕ) (put : ℕ) → k ≡ n → put ≤ length out → out′ ≡ cond t out (over out put (join (renumber k it)))
+    → out′ ≡ over out put (cond t [] (join (renumber n it)))
+laid true k n it out out′ put e h o = o ∙ sym (over-none out put h)
+laid false k n it out out′ put e h o = rw (← e) o
+
 -- ---- a peer at a place of m
 
 pub record PeerAt (m : List ℕ) (at : ℕ) (it : List (List ℕ)) : Type 0 where
@@ -92,7 +97,7 @@ pub as-there : (m : List ℕ) (at r w : ℕ) (it : List (List ℕ)) → PeerAt m
 as-there m at r w it e er ew = rw (er, ew) (sym (e .number))
 
 -- its octets, or none
-pub copied : (m : List ℕ) (at size n : ℕ) (it : List (List ℕ)) (t : Bool) → PeerAt m at it → size ≡ length (join it) → n ≡ cond t 0 size
-    → take n (drop at m) ≡ cond t [] (join it)
-copied m at size n it true e es en = rw en
-copied m at size n it false e es en = rw (en, es) (e .octets)
+pub copied : (t : Bool) (m : List ℕ) (at size n : ℕ) (it : List (List ℕ)) (out out′ : List ℕ) (put : ℕ) → PeerAt m at it → size ≡ length (join it) → n ≡ cond t 0 size
+    → out′ ≡ over out put (take n (drop at m)) → out′ ≡ over out put (cond t [] (join it))
+copied true m at size n it out out′ put e es en o = rw en at o
+copied false m at size n it out out′ put e es en o = o ∙ rw (en, es, e .octets)

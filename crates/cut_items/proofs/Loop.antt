@@ -18,7 +18,7 @@ use Rattle.copy.specs.Over.{over}
 use Rattle.copy.proofs.Laws.{length-over, over-over, over-none}
 use Rattle.moving.specs.Found.{Lie, items, item}
 use Rattle.moving.specs.Moved.{moved}
-use Rattle.moving.proofs.Found.{Here, leftN, here-of, tail, next, none-left}
+use Rattle.moving.proofs.Found.{Here, leftN, here-of, tail, Next, next, none-left}
 
 -- what stays of items: each goes, or stays as another with as many octets
 pub record Sieve (f : Fmt) (stay : List (List (List ℕ)) → List (List (List ℕ))) (gone : List (List ℕ) → Bool) (new : List (List ℕ) → List (List ℕ)) : Type 0 where
@@ -51,11 +51,19 @@ one-le : (t : Bool) (n : ℕ) → cond t 0 n ≤ n
 one-le true n = omega arith
 one-le false n = omega arith
 
-pub laid : (t : Bool) (out : List ℕ) (put : ℕ) (x : List ℕ) → put ≤ length out → cond t out (over out put x) ≡ over out put (cond t [] x)
-laid true out put x h = sym (over-none out put h)
-laid false out put x h = refl
-
 module _ (f : Fmt) (stay : List (List (List ℕ)) → List (List (List ℕ))) where
+  -- the first of the items left: what it adds to the count, its octets, and how many they are
+  first : (gone : List (List ℕ) → Bool) (new : List (List ℕ) → List (List ℕ)) (m : List ℕ) (at k : ℕ) (its : List (List (List ℕ))) (rest : List ℕ)
+      → Sieve f stay gone new → Next f m at k its rest
+      → let it = item f (drop at m) in
+      (length (stay its) ≡ cond (gone it) 0 1 + length (stay (tail its)))
+      × (joins (stay its) ≡ cond (gone it) [] (join (new it)) ++ joins (stay (tail its)))
+      × (length (cond (gone it) [] (join (new it))) ≡ cond (gone it) 0 (length (join it)))
+  first gone new m at k its rest v x =
+      let it : List (List ℕ) = item f (drop at m) in
+      let e : stay its ≡ consUnless (gone it) (new it) (stay (tail its)) = ap stay (x .split) ∙ v .each it (tail its) in
+      (rw e (count-one (gone it) (new it) (stay (tail its))), rw e (joins-one (gone it) (new it) (stay (tail its))), length-one (gone it) (join (new it)) (length (join it)) (v .same it (x .fit)))
+
   -- ---- measuring: k items and octets stay of those before `at`; `left` of count are left
 
   pub record Measuring (m : List ℕ) (all : List (List (List ℕ))) (count at left k octets : ℕ) : Type 0 where
@@ -86,17 +94,15 @@ module _ (f : Fmt) (stay : List (List (List ℕ)) → List (List (List ℕ))) wh
   measure-turn gone new m all count at left k octets size k′ octets′ t v r p es et ek eo =
       let x = next f m at left (r .its) (r .rest) (r .here) p in
       let it : List (List ℕ) = item f (drop at m) in
-      let e : stay (r .its) ≡ consUnless (gone it) (new it) (stay (tail (r .its))) = ap stay (x .split) ∙ v .each it (tail (r .its)) in
-      let c1 : length (stay (r .its)) ≡ cond (gone it) 0 1 + length (stay (tail (r .its))) = rw e (count-one (gone it) (new it) (stay (tail (r .its)))) in
-      let c2 : length (joins (stay (r .its))) ≡ cond (gone it) 0 (length (join it)) + length (joins (stay (tail (r .its)))) =
-      rw (e, joins-one (gone it) (new it) (stay (tail (r .its))), length-append, length-one (gone it) (join (new it)) (length (join it)) (v .same it (x .fit))) in
+      let o = first gone new m at left (r .its) (r .rest) v x in
+      let c : length (joins (stay (r .its))) ≡ cond (gone it) 0 (length (join it)) + length (joins (stay (tail (r .its)))) = rw (o .1, length-append, o .2) in
       rw (ek, eo, es, et)
       (record {
         its = tail (r .its);
         rest = r .rest;
         here = x .on;
-        counted = omega (arith, r .counted, c1);
-        sized = omega (arith, r .sized, c2);
+        counted = omega (arith, r .counted, o .0);
+        sized = omega (arith, r .sized, c);
         few = omega (arith, r .few, one-le (gone it) 1);
         used = omega (arith, r .used, one-le (gone it) (length (join it)));
       })
@@ -132,18 +138,19 @@ module _ (f : Fmt) (stay : List (List (List ℕ)) → List (List (List ℕ))) wh
       }
 
   -- the next item has room
-  pub write-room : (gone : List (List ℕ) → Bool) (new : List (List ℕ) → List (List ℕ)) (m : List ℕ) (all : List (List (List ℕ))) (out₀ : List ℕ) (put₀ : ℕ) (out : List ℕ) (at left put size : ℕ) (t : Bool)
+  pub write-room : (gone : List (List ℕ) → Bool) (new : List (List ℕ) → List (List ℕ))
+      (m : List ℕ) (all : List (List (List ℕ))) (out₀ : List ℕ) (put₀ : ℕ) (out : List ℕ) (at left put size : ℕ) (t : Bool)
       → Sieve f stay gone new → Writing m all out₀ put₀ out at left put → 0 < left → put₀ + length (joins (stay all)) ≤ length out₀
       → size ≡ length (join (item f (drop at m))) → t ≡ gone (item f (drop at m)) → put + cond t 0 size ≤ length out
   write-room gone new m all out₀ put₀ out at left put size t v r p q es et =
       let x = next f m at left (r .its) (r .rest) (r .here) p in
       let it : List (List ℕ) = item f (drop at m) in
-      let e : stay (r .its) ≡ consUnless (gone it) (new it) (stay (tail (r .its))) = ap stay (x .split) ∙ v .each it (tail (r .its)) in
-      let c : length (joins (stay (r .its))) ≡ cond (gone it) 0 (length (join it)) + length (joins (stay (tail (r .its)))) =
-      rw (e, joins-one (gone it) (new it) (stay (tail (r .its))), length-append, length-one (gone it) (join (new it)) (length (join it)) (v .same it (x .fit))) in
+      let o = first gone new m at left (r .its) (r .rest) v x in
+      let c : length (joins (stay (r .its))) ≡ cond (gone it) 0 (length (join it)) + length (joins (stay (tail (r .its)))) = rw (o .1, length-append, o .2) in
       rw (es, et) (omega (arith, r .room, r .long, c))
 
-  pub write-turn : (gone : List (List ℕ) → Bool) (new : List (List ℕ) → List (List ℕ)) (m : List ℕ) (all : List (List (List ℕ))) (out₀ : List ℕ) (put₀ : ℕ) (out out′ : List ℕ) (at left put put′ size : ℕ) (t : Bool)
+  pub write-turn : (gone : List (List ℕ) → Bool) (new : List (List ℕ) → List (List ℕ))
+      (m : List ℕ) (all : List (List (List ℕ))) (out₀ : List ℕ) (put₀ : ℕ) (out out′ : List ℕ) (at left put put′ size : ℕ) (t : Bool)
       → Sieve f stay gone new → Writing m all out₀ put₀ out at left put → 0 < left → put₀ + length (joins (stay all)) ≤ length out₀
       → size ≡ length (join (item f (drop at m))) → t ≡ gone (item f (drop at m)) → out′ ≡ over out put (cond t [] (join (new (item f (drop at m))))) → put′ ≡ put + cond t 0 size
       → Writing m all out₀ put₀ out′ (at + size) (left - 1) put′
@@ -152,19 +159,17 @@ module _ (f : Fmt) (stay : List (List (List ℕ)) → List (List (List ℕ))) wh
       let it : List (List ℕ) = item f (drop at m) in
       let w : List ℕ = cond (gone it) [] (join (new it)) in
       let y : List ℕ = joins (stay (tail (r .its))) in
-      let e : stay (r .its) ≡ consUnless (gone it) (new it) (stay (tail (r .its))) = ap stay (x .split) ∙ v .each it (tail (r .its)) in
-      let c : joins (stay (r .its)) ≡ w ++ y = rw e (joins-one (gone it) (new it) (stay (tail (r .its)))) in
-      let l : length (joins (stay (r .its))) ≡ length w + length y = rw (c, length-append) in
-      let lw : length w ≡ cond (gone it) 0 (length (join it)) = length-one (gone it) (join (new it)) (length (join it)) (v .same it (x .fit)) in
+      let o = first gone new m at left (r .its) (r .rest) v x in
+      let l : length (joins (stay (r .its))) ≡ length w + length y = rw (o .1, length-append) in
       let h : put + (length w + length y) ≤ length out = omega (arith, r .room, r .long, l) in
-      rw (ep, eo, es, et, ← lw)
+      rw (ep, eo, es, et, ← (o .2))
       (record {
         its = tail (r .its);
         rest = r .rest;
         here = x .on;
         long = length-over out put w (omega arith) ∙ r .long;
         room = omega (arith, r .room, l);
-        holds = over-over out put w y h ∙ ap (over out put) (sym c) ∙ r .holds;
+        holds = over-over out put w y h ∙ ap (over out put) (sym (o .1)) ∙ r .holds;
       })
 
   pub write-done : (gone : List (List ℕ) → Bool) (new : List (List ℕ) → List (List ℕ)) (m : List ℕ) (all : List (List (List ℕ))) (out₀ : List ℕ) (put₀ : ℕ) (out : List ℕ) (at left put : ℕ)

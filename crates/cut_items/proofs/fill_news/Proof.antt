@@ -36,7 +36,8 @@ ahead c =
 loop-holds : tie.Need-loop-holds Inv-loop μ-loop
 loop-holds c =
     let a = c .before .before .before .args in
-    fill-starts (a .m .now) (gone (a .mutes .now)) (a .news .now) (a .from) (a .count) (octets-of (a .m .now) (λ k. omega (arith, c .before .before .shared-slice-known .given k))) (c .before .before .before .pre .0)
+    fill-starts (a .m .now) (gone (a .mutes .now)) (a .news .now) (a .from) (a .count)
+    (octets-of (a .m .now) (λ k. omega (arith, c .before .before .shared-slice-known .given k))) (c .before .before .before .pre .0)
 
 peer-as-requires : tie.Need-peer-as-requires Inv-loop μ-loop
 peer-as-requires c κs = ahead c .lies
@@ -74,7 +75,8 @@ loop-again c =
     let l = b .before .loop in
     let a = b .before .before .before .before .before .args in
     fill-turn (a .m .now) (gone (a .mutes .now)) _ (a .news .now) (l .news) (a .count) (l .at) (l .i) (l .k) _ _ _ _ (l .inv) (search needs) (search needs)
-    (c .peer-size .ensures .0) (c .before .before .before .listed .ensures ∙ ap (gone (a .mutes .now)) (c .before .before .before .before .peer-as .ensures)) (c .before .before .index-of .ensures) (c .before .count-of .ensures)
+    (c .peer-size .ensures .0) (c .before .before .before .listed .ensures ∙ ap (gone (a .mutes .now)) (c .before .before .before .before .peer-as .ensures))
+    (c .before .before .index-of .ensures) (c .before .count-of .ensures)
 
 same-length : tie.Need-same-length Inv-loop μ-loop
 same-length c = c .before .loop .inv .long

@@ -5,7 +5,6 @@ use native.Mathlib.Omega.{arith}
 use lib.ListN.{drop, getD}
 use lib.Dec.{leb}
 use borrow.Author.Needs.{needs}
-use Rattle.form.specs.Octets.{Octets}
 use Rattle.form.proofs.Octets.{octets-of}
 use Rattle.page.specs.Rib.{entry}
 use Rattle.moving.specs.Found.{items}

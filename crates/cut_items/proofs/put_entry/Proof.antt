@@ -53,8 +53,10 @@ returns-2 : tie.Need-returns-2
 returns-2 c =
     let k = c .before .before .before .before .before .before .before .before in
     let a = k .before .before .before .args in
+    let s = k .before .before .before .pre .1 .0 in
+    let n = c .before .before .before .before .before .before .put-number .ensures in
     rw (lt-leb 65536 (a .k) (k .if1 .left))
-    (refl, renumbered (a .m .now) (a .at) (a .peers) (a .k) _ (a .out .now) _ _ (a .put) (a .size) (there k) (k .before .before .before .pre .1 .0) (room k) (c .before .before .before .before .before .before .put-number .ensures) (c .before .before .copy .ensures))
+    (refl, renumbered (a .m .now) (a .at) (a .peers) (a .k) _ (a .out .now) _ _ (a .put) (a .size) (there k) s (room k) n (c .before .before .copy .ensures))
 
 pub put-entry-spec : {M : Type 1} → statement M
 put-entry-spec =

@@ -1,21 +1,18 @@
 -- `cut_items::write_entries` meets its contract. Assumes nothing.
 use mathlib.Core.Path.{_≡_, ap, _∙_}
-use mathlib.Core.Bool.{Bool, cond}
-use mathlib.Core.List.{List, []}
 use Prim.Native.Nat.{ℕ}
 use native.Mathlib.Omega.{arith}
 use lib.ListN.{drop, getD}
 use lib.Dec.{leb}
 use borrow.Author.Needs.{needs}
-use Rattle.form.specs.Fmt.{join}
 use Rattle.form.proofs.Octets.{octets-of}
-use Rattle.cutting.specs.Cut.{indexOf, renumber}
+use Rattle.cutting.specs.Cut.{indexOf}
 use Rattle.page.specs.Rib.{entry}
-use Rattle.copy.specs.Over.{over}
 use Rattle.moving.specs.Found.{items, item}
 use Rattle.moving.specs.Moved.{moved}
 use Rattle.moving.proofs.Found.{Next, next}
-use Rattle.cut_items.proofs.Loop.{moves, laid, Writing, write-starts, write-room, write-turn, write-done}
+use Rattle.cut_items.proofs.Laws.{laid}
+use Rattle.cut_items.proofs.Loop.{moves, Writing, write-starts, write-room, write-turn, write-done}
 use Rattle.cut_items.proofs.write_entries.Statement.{statement}
 use Rattle.cut_items.proofs.write_entries.Tie as tie
 
@@ -63,7 +60,10 @@ put-entry-requires c κs =
     let p = k .before .before .before .before .before in
     let a = p .args in
     let e = c .before .before .before .entry-size .ensures .0 in
-    (ahead k .lies, (e, write-room (entry (a .peers)) (moved (a .news .now)) _ _ (a .m .now) _ (a .out .now) (a .put) (l .out) (l .at) (l .left) (l .next) _ _ (moves (a .peers) (a .news .now)) (l .inv) (k .loop-test .taken) (p .pre .1 .1) e (ap (leb 65536) (new (c .before)))))
+    let r =
+    write-room (entry (a .peers)) (moved (a .news .now)) _ _ (a .m .now) _ (a .out .now) (a .put) (l .out) (l .at) (l .left) (l .next) _ _
+    (moves (a .peers) (a .news .now)) (l .inv) (k .loop-test .taken) (p .pre .1 .1) e (ap (leb 65536) (new (c .before))) in
+    (ahead k .lies, (e, r))
 
 add-at : tie.Need-add-at Inv-loop μ-loop
 add-at c = search needs
@@ -82,11 +82,9 @@ loop-again c =
     let p = b .before .before .before .before .before in
     let a = p .args in
     let x = c .before .before .put-entry .ensures in
-    let it : List (List ℕ) = item (entry (a .peers)) (drop (l .at) (a .m .now)) in
-    let t : Bool = leb 65536 (k .new-index .result) in
-    let o = laid t (l .out) (l .next) (join (renumber (k .new-index .result) it)) (omega (arith, l .inv .room, l .inv .long, p .pre .1 .1)) in
-    write-turn (entry (a .peers)) (moved (a .news .now)) _ _ (a .m .now) _ (a .out .now) (a .put) (l .out) _ (l .at) (l .left) (l .next) _ _ t (moves (a .peers) (a .news .now)) (l .inv) (b .loop-test .taken) (p .pre .1 .1)
-    (k .before .before .entry-size .ensures .0) (ap (leb 65536) (new k)) (x .1 ∙ o ∙ ap (λ (v : ℕ). over (l .out) (l .next) (cond t [] (join (renumber v it)))) (new k)) (x .0)
+    let o = laid (leb 65536 (k .new-index .result)) _ _ (item (entry (a .peers)) (drop (l .at) (a .m .now))) (l .out) _ (l .next) (new k) (omega (arith, l .inv .room, l .inv .long, p .pre .1 .1)) (x .1) in
+    write-turn (entry (a .peers)) (moved (a .news .now)) _ _ (a .m .now) _ (a .out .now) (a .put) (l .out) _ (l .at) (l .left) (l .next) _ _ _
+    (moves (a .peers) (a .news .now)) (l .inv) (b .loop-test .taken) (p .pre .1 .1) (k .before .before .entry-size .ensures .0) (ap (leb 65536) (new k)) o (x .0)
 
 same-length : tie.Need-same-length Inv-loop μ-loop
 same-length c = c .before .loop .inv .long

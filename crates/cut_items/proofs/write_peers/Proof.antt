@@ -12,7 +12,6 @@ use Rattle.form.proofs.Octets.{octets-of}
 use Rattle.cutting.specs.Keep.{kept}
 use Rattle.cutting.specs.Cut.{mem}
 use Rattle.page.specs.Peers.{peer}
-use Rattle.copy.specs.Over.{over}
 use Rattle.moving.specs.Found.{items, item}
 use Rattle.moving.proofs.Found.{Next, next}
 use Rattle.cut_items.proofs.Laws.{peer-at, copied}
@@ -67,7 +66,10 @@ copy-requires c κs =
     let l = b .before .loop in
     let p = b .before .before .before .before .before in
     let a = p .args in
-    let r = write-room peer (kept (gone (a .mutes .now))) _ _ (a .m .now) _ (a .out .now) (a .put) (l .out) (l .at) (l .left) (l .next) _ _ (keeps peer (gone (a .mutes .now))) (l .inv) (b .loop-test .taken) (p .pre .1) (c .before .before .before .before .peer-size .ensures .0) (goes (c .before .before)) in
+    let s = c .before .before .before .before .peer-size .ensures .0 in
+    let r =
+    write-room peer (kept (gone (a .mutes .now))) _ _ (a .m .now) _ (a .out .now) (a .put) (l .out) (l .at) (l .left) (l .next) _ _
+    (keeps peer (gone (a .mutes .now))) (l .inv) (b .loop-test .taken) (p .pre .1) s (goes (c .before .before)) in
     (search needs, omega (arith, r, c .before .gain .ensures .0))
 
 add-next : tie.Need-add-next Inv-loop μ-loop
@@ -91,9 +93,9 @@ loop-again c =
     let a = p .args in
     let s = g .before .before .before .peer-size .ensures .0 in
     let e = peer-at (a .m .now) (l .at) (octets (b .before .before .before .before)) (ahead b .lies) in
-    let x = copied (a .m .now) (l .at) _ _ _ (g .before .listed .result) e s (g .gain .ensures .0) in
-    write-turn peer (kept (gone (a .mutes .now))) _ _ (a .m .now) _ (a .out .now) (a .put) (l .out) _ (l .at) (l .left) (l .next) _ _ _ (keeps peer (gone (a .mutes .now))) (l .inv) (b .loop-test .taken) (p .pre .1)
-    s (goes (g .before)) (c .before .before .copy .ensures ∙ ap (over (l .out) (l .next)) x) (ap (λ (n : ℕ). l .next + n) (g .gain .ensures .0))
+    let o = copied (g .before .listed .result) (a .m .now) (l .at) _ _ _ (l .out) _ (l .next) e s (g .gain .ensures .0) (c .before .before .copy .ensures) in
+    write-turn peer (kept (gone (a .mutes .now))) _ _ (a .m .now) _ (a .out .now) (a .put) (l .out) _ (l .at) (l .left) (l .next) _ _ _
+    (keeps peer (gone (a .mutes .now))) (l .inv) (b .loop-test .taken) (p .pre .1) s (goes (g .before)) o (ap (λ (n : ℕ). l .next + n) (g .gain .ensures .0))
 
 same-length : tie.Need-same-length Inv-loop μ-loop
 same-length c = c .before .loop .inv .long
