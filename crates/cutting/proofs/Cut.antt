@@ -53,7 +53,7 @@ entry-renumber : (n m j : ℕ) (g : Fmt) (it : List (List ℕ)) → Fits (indexe
 unfolding Fits checked
 entry-renumber n m j g (c ∷ cs) h a b = (length-toBe 2 j, octets-toBe 2 j, (rw (be-toBe 2 j b, lt-ltb j m a), h .2 .1))
 
-renumber-length : (n j : ℕ) (g : Fmt) (it : List (List ℕ)) → Fits (indexed n g) it → length (join (renumber j it)) ≡ length (join it)
+pub renumber-length : (n j : ℕ) (g : Fmt) (it : List (List ℕ)) → Fits (indexed n g) it → length (join (renumber j it)) ≡ length (join it)
 unfolding Fits checked
 renumber-length n j g (c ∷ cs) h = simp (length-append, length-toBe) (omega (arith, h .0))
 

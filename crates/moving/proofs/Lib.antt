@@ -1,0 +1,4 @@
+pub mod Found
+pub mod Moved
+pub mod Entry
+pub mod Peer
