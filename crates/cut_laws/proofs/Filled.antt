@@ -14,7 +14,7 @@ use Rattle.copy.specs.Over.{over}
 use Rattle.copy.proofs.Laws.{length-over}
 use Rattle.moving.specs.Moved.{newFrom, moved}
 use Rattle.moving.specs.One.{told, Ranked}
-use Rattle.cut_laws.proofs.Moved.{new-at, length-new, moved-cut}
+use Rattle.moving.proofs.Moved.{new-at, length-new, moved-cut}
 
 first : (xs out : List ℕ) (i : ℕ) → i < length xs → getD (over out 0 xs) i 0 ≡ getD xs i 0
 unfolding over

@@ -17,7 +17,7 @@ use Rattle.shown.specs.declared.Part.{Part}
 use Rattle.reading.specs.Answer.{within}
 use Rattle.moving.specs.Found.{Lie, items}
 use Rattle.moving.specs.One.{itemsLeft}
-use Rattle.cut_laws.proofs.Found.{lie-of}
+use Rattle.moving.proofs.Found.{lie-of}
 
 -- the record with other items
 abbrev pub withItems : Rec → List (List ℕ) → List (List (List ℕ)) → Rec

@@ -1,5 +1,3 @@
-pub mod Found
-pub mod Moved
 pub mod Filled
 pub mod Read
 pub mod Loop
