@@ -1,12 +1,14 @@
 // Types 16 and 17: state changes and BGP messages. m is the record from its header to its last octet.
+// Each function that leads to a BGP message has one caller, and so the compiler puts them all into the walk's loop. That is why the
+// session is read in two places.
 ghost use mathlib.Core.Path.{_≡_};
 ghost use Prim.Native.Nat.{_+_, _≤_};
 ghost use Rattle.form.specs.Pass.{whole};
-ghost use Rattle.form.specs.Words.{choose};
 ghost use Rattle.page.specs.Bgp4mp.{session, addresses, stateChange, message, messageRest};
 ghost use Rattle.shown.specs.Told.{changed, told, sessionOf};
 ghost use Rattle.shown.specs.Told as show;
 ghost use Rattle.shown.specs.declared.Shown.the-variants.{Message, Refused};
+ghost use Rattle.bgp.specs.Size.{addressSize};
 use flow::Num;
 use flow::Room;
 use flow::field;
@@ -15,6 +17,22 @@ use shown::Header;
 use shown::Part;
 use shown::Session;
 use shown::Shown;
+
+// How many octets an address has.
+pub enum Size {
+    Octets(usize),
+    Unknown,
+}
+
+fn address_size(family: u64) -> Size
+    ensures { λ r. ⌜ r ≡ addressSize family ⌝ }
+{
+    match family {
+        1 => Size::Octets(4),
+        2 => Size::Octets(16),
+        _ => Size::Unknown,
+    }
+}
 
 fn states(m: &[u8], at: usize, h: Header, s: Session) -> Shown
     ensures { λ r. ⌜ r ≡ whole (changed h s) Refused stateChange (now (m .entry)) at ⌝ }
@@ -97,8 +115,8 @@ pub fn message_at(m: &[u8], at: usize, most: u64, h: Header, s: Session) -> Show
     message_rest(m, d, a, n, most, h, s, at, kind)
 }
 
-// The addresses, and then the states (`changes`) or a BGP message.
-fn addresses_at(
+// The addresses, and then the states.
+fn change_addresses(
     m: &[u8],
     at: usize,
     size: usize,
@@ -106,11 +124,9 @@ fn addresses_at(
     local: u64,
     interface: u64,
     family: u64,
-    changes: bool,
-    most: u64,
     h: Header,
 ) -> Shown
-    ensures { λ r. ⌜ r ≡ whole (λ fs. choose changes (changed h (sessionOf peer local interface family fs) fs) (told h (sessionOf peer local interface family fs) fs)) Refused (addresses size (choose changes stateChange (message most))) (now (m .entry)) at ⌝ }
+    ensures { λ r. ⌜ r ≡ whole (λ fs. changed h (sessionOf peer local interface family fs) fs) Refused (addresses size stateChange) (now (m .entry)) at ⌝ }
 {
     let Room::To(a) = skip(m, at, size) else {
         return Shown::Refused(5, at);
@@ -126,15 +142,13 @@ fn addresses_at(
         theirs: Part { at, size },
         ours: Part { at: a, size },
     };
-    if changes {
-        return states(m, b, h, s);
-    }
-    message_at(m, b, most, h, s)
+    states(m, b, h, s)
 }
 
-fn session_at(m: &[u8], at: usize, width: usize, changes: bool, most: u64, h: Header) -> Shown
+// A state change whose session starts at `at`, with AS numbers of `width` octets.
+pub fn state_change(m: &[u8], at: usize, width: usize, h: Header) -> Shown
     requires { ⌜ width ≤ 8 ⌝ }
-    ensures { λ r. ⌜ r ≡ whole (λ fs. choose changes (show.change h fs) (show.message h fs)) Refused (session width (choose changes stateChange (message most))) (now (m .entry)) at ⌝ }
+    ensures { λ r. ⌜ r ≡ whole (show.change h) Refused (session width stateChange) (now (m .entry)) at ⌝ }
 {
     let Num::Value(peer, a) = field(m, at, width) else {
         return Shown::Refused(5, at);
@@ -148,21 +162,41 @@ fn session_at(m: &[u8], at: usize, width: usize, changes: bool, most: u64, h: He
     let Num::Value(family, e) = field(m, d, 2) else {
         return Shown::Refused(5, d);
     };
-    if family == 1 {
-        return addresses_at(m, e, 4, peer, local, interface, family, changes, most, h);
-    }
-    if family == 2 {
-        return addresses_at(m, e, 16, peer, local, interface, family, changes, most, h);
-    }
-    Shown::Refused(7, d)
+    let Size::Octets(size) = address_size(family) else {
+        return Shown::Refused(7, d);
+    };
+    change_addresses(m, e, size, peer, local, interface, family, h)
 }
 
-// A state change whose session starts at `at`, with AS numbers of `width` octets.
-pub fn state_change(m: &[u8], at: usize, width: usize, h: Header) -> Shown
-    requires { ⌜ width ≤ 8 ⌝ }
-    ensures { λ r. ⌜ r ≡ whole (show.change h) Refused (session width stateChange) (now (m .entry)) at ⌝ }
+// The addresses, and then a BGP message.
+fn message_addresses(
+    m: &[u8],
+    at: usize,
+    size: usize,
+    peer: u64,
+    local: u64,
+    interface: u64,
+    family: u64,
+    most: u64,
+    h: Header,
+) -> Shown
+    ensures { λ r. ⌜ r ≡ whole (λ fs. told h (sessionOf peer local interface family fs) fs) Refused (addresses size (message most)) (now (m .entry)) at ⌝ }
 {
-    session_at(m, at, width, true, 0, h)
+    let Room::To(a) = skip(m, at, size) else {
+        return Shown::Refused(5, at);
+    };
+    let Room::To(b) = skip(m, a, size) else {
+        return Shown::Refused(5, a);
+    };
+    let s = Session {
+        peer,
+        local,
+        interface,
+        family,
+        theirs: Part { at, size },
+        ours: Part { at: a, size },
+    };
+    message_at(m, b, most, h, s)
 }
 
 // The same for a BGP message.
@@ -170,5 +204,20 @@ pub fn bgp_message(m: &[u8], at: usize, width: usize, most: u64, h: Header) -> S
     requires { ⌜ width ≤ 8 ⌝ }
     ensures { λ r. ⌜ r ≡ whole (show.message h) Refused (session width (message most)) (now (m .entry)) at ⌝ }
 {
-    session_at(m, at, width, false, most, h)
+    let Num::Value(peer, a) = field(m, at, width) else {
+        return Shown::Refused(5, at);
+    };
+    let Num::Value(local, b) = field(m, a, width) else {
+        return Shown::Refused(5, a);
+    };
+    let Num::Value(interface, d) = field(m, b, 2) else {
+        return Shown::Refused(5, b);
+    };
+    let Num::Value(family, e) = field(m, d, 2) else {
+        return Shown::Refused(5, d);
+    };
+    let Size::Octets(size) = address_size(family) else {
+        return Shown::Refused(7, d);
+    };
+    message_addresses(m, e, size, peer, local, interface, family, most, h)
 }

@@ -1,4 +1,13 @@
-pub mod Found
-pub mod Moved
 pub mod Filled
+pub mod Read
 pub mod Loop
+pub mod Checked
+pub mod Rest
+pub mod Shows
+pub mod Wrote
+pub mod Whole
+pub mod Items
+pub mod Tables
+pub mod Ribs
+pub mod Answers
+pub mod Demand3

@@ -1,24 +1,23 @@
 -- The loops over a dump's records: what is left of the records passed, and the cut of those to come, are the whole. Assumes nothing.
-use mathlib.Core.Path.{_≡_, refl, sym, ap, _∙_, subst}
-use mathlib.Core.Bool.{Bool, true, false}
+use mathlib.Core.Path.{_≡_, refl, sym, ap, _∙_}
 use mathlib.Core.List.{List, [], _∷_, _++_}
 use mathlib.Core.Option.{Option, none, some}
-use Prim.Native.Nat.{ℕ, zero, suc, _+_, _-_, _≤_, _<_}
+use Prim.Native.Nat.{ℕ, _+_, _-_, _≤_, _<_}
 use native.Mathlib.Omega.{arith}
-use lib.ListN.{length, take, drop, getD, length-append, length-drop, drop-of-length-le}
+use lib.ListN.{length, drop, length-append, length-drop}
 use lib.Seq.{drop-append-seam, drop-drop}
-use Rattle.form.specs.Octets.{Octets}
-use Rattle.form.specs.Fmt.{Out, bad, good}
-use Rattle.form.specs.Body.{Body, spell}
-use Rattle.form.specs.Shape.{Layout, St, noTable, peersOf}
+use Rattle.form.specs.Fmt.{good}
+use Rattle.form.specs.Body.{Body}
+use Rattle.form.specs.Shape.{Layout, St, noTable}
 use Rattle.form.specs.Record.{Rec, write, size, readRec, Valid, layoutOf, next, timeOf}
-use Rattle.form.specs.Dump.{writes, Valids, Splits, walkAll}
+use Rattle.form.specs.Dump.{writes, Valids, Splits}
 use Rattle.form.proofs.Record.{length-write, complete-rec}
 use Rattle.form.proofs.Dump.{writes-append, shows}
 use Rattle.cutting.specs.Cut.{Cut, numbers, cutBody, rebody, cutRecs, cut}
 use Rattle.copy.specs.Over.{over}
 use Rattle.copy.proofs.Laws.{length-over, over-over, over-none}
 use Rattle.moving.specs.One.{Reads, recOf, cutOne}
+use Rattle.cut_laws.proofs.Read.{is-rec}
 
 rebody-on : (r : Rec) (o : Option Body) (qs : List Rec) → rebody r o qs ≡ rebody r o [] ++ qs
 rebody-on r none qs = refl
@@ -41,16 +40,17 @@ module _ (layout : ℕ → ℕ → Layout) (c : Cut) where
   rest [] = []
   rest (r ∷ rs) = rs
 
+  -- the first of them, those behind it, and what is left of each
   pub record Front (d : List ℕ) (st : St) (at : ℕ) (rs : List Rec) : Type 0 where
     pub reads : Reads layout st (drop at d)
     pub valid : Valid layout st (recOf layout st (drop at d))
     pub split : rs ≡ recOf layout st (drop at d) ∷ rest rs
     pub room : at + size (recOf layout st (drop at d)) ≤ length d
     pub on : From d (next layout (recOf layout st (drop at d)) st) (at + size (recOf layout st (drop at d))) (rest rs)
-
-  found : (st : St) (bs : List ℕ) (r : Rec) (q : List ℕ) → readRec layout st 0 bs ≡ good r q → Reads layout st bs × (recOf layout st bs ≡ r)
-  unfolding Reads recOf
-  found st bs r q e = rw e (tt, refl)
+    pub cuts : writes (cutRecs layout c st rs)
+        ≡ writes (cutOne layout c st (recOf layout st (drop at d))) ++ writes (cutRecs layout c (next layout (recOf layout st (drop at d)) st) (rest rs))
+    pub sizes : length (writes (cutRecs layout c st rs))
+        ≡ length (writes (cutOne layout c st (recOf layout st (drop at d)))) + length (writes (cutRecs layout c (next layout (recOf layout st (drop at d)) st) (rest rs)))
 
   pub front : (d : List ℕ) (st : St) (at : ℕ) (rs : List Rec) → From d st at rs → at < length d → Front d st at rs
   front d st at [] f h =
@@ -65,13 +65,15 @@ module _ (layout : ℕ → ℕ → Layout) (c : Cut) where
       let g : at + size r ≤ length d = omega arith in
       let w : drop (length (write r)) (drop at d) ≡ writes rs = rw (← (f .lie)) (drop-append-seam (write r) (writes rs)) in
       let z : writes rs ≡ drop (at + size r) d = sym w ∙ drop-drop (length (write r)) at d ∙ ap (λ (k : ℕ). drop (at + k) d) (length-write r) in
-      let q = found st (drop at d) r (writes rs) e in
+      let q = is-rec layout st (drop at d) r (writes rs) e in
       record {
         reads = q .0;
         valid = rw (q .1) v;
         split = rw (q .1) refl;
         room = rw (q .1) g;
         on = rw (q .1) (record { within = g; valid = f .valid .1; lie = z });
+        cuts = rw (q .1) (writes-cut st r rs);
+        sizes = rw (q .1) (ap length (writes-cut st r rs) ∙ length-append (writes (cutOne layout c st r)) (writes (cutRecs layout c (next layout r st) rs)));
       }
 
   pub none-left : (d : List ℕ) (st : St) (at : ℕ) (rs : List Rec) → From d st at rs → length d ≤ at → rs ≡ []
@@ -100,10 +102,7 @@ module _ (layout : ℕ → ℕ → Layout) (c : Cut) where
       → Sizing d su (at + n) (total + k)
   size-turn d st su at total n k s h en ek es =
       let f = front d st at (s .rs) (s .here) h in
-      let r : Rec = recOf layout st (drop at d) in
-      let w : length (writes (cutRecs layout c st (s .rs))) ≡ length (writes (cutOne layout c st r)) + length (writes (cutRecs layout c (next layout r st) (rest (s .rs)))) =
-      rw (f .split) (ap length (writes-cut st r (rest (s .rs))) ∙ length-append (writes (cutOne layout c st r)) (writes (cutRecs layout c (next layout r st) (rest (s .rs))))) in
-      rw (en, ek, es) (record { rs = rest (s .rs); here = f .on; counted = omega (arith, s .counted, w) })
+      rw (en, ek, es) (record { rs = rest (s .rs); here = f .on; counted = omega (arith, s .counted, f .sizes) })
 
   pub size-done : (d : List ℕ) (st : St) (at total : ℕ) → Sizing d st at total → length d ≤ at → total ≡ length (cut layout c d)
   size-done d st at total s h = let e = none-left d st at (s .rs) (s .here) h in let g = rw e at (s .counted) in omega (arith, g)
@@ -125,10 +124,7 @@ module _ (layout : ℕ → ℕ → Layout) (c : Cut) where
       → put + length (writes (cutOne layout c st (recOf layout st (drop at d)))) ≤ length out
   cut-room d out₀ out st at put s h q =
       let f = front d st at (s .rs) (s .here) h in
-      let r : Rec = recOf layout st (drop at d) in
-      let w : length (writes (cutRecs layout c st (s .rs))) ≡ length (writes (cutOne layout c st r)) + length (writes (cutRecs layout c (next layout r st) (rest (s .rs)))) =
-      rw (f .split) (ap length (writes-cut st r (rest (s .rs))) ∙ length-append (writes (cutOne layout c st r)) (writes (cutRecs layout c (next layout r st) (rest (s .rs))))) in
-      omega (arith, s .room, s .long, w)
+      omega (arith, s .room, s .long, f .sizes)
 
   pub cut-turn : (d out₀ out out′ : List ℕ) (st su : St) (at put put′ n : ℕ) → Cutting d out₀ out st at put → at < length d → length (cut layout c d) ≤ length out₀
       → n ≡ size (recOf layout st (drop at d)) → su ≡ next layout (recOf layout st (drop at d)) st
@@ -139,17 +135,14 @@ module _ (layout : ℕ → ℕ → Layout) (c : Cut) where
       let r : Rec = recOf layout st (drop at d) in
       let x : List ℕ = writes (cutOne layout c st r) in
       let y : List ℕ = writes (cutRecs layout c (next layout r st) (rest (s .rs))) in
-      let w : writes (cutRecs layout c st (s .rs)) ≡ x ++ y = rw (f .split) (writes-cut st r (rest (s .rs))) in
-      let l : length (writes (cutRecs layout c st (s .rs))) ≡ length x + length y = ap length w ∙ length-append x y in
-      let g : put + length x ≤ length out = omega (arith, s .room, s .long, l) in
-      let g2 : put + (length x + length y) ≤ length out = omega (arith, s .room, s .long, l) in
+      let g : put + (length x + length y) ≤ length out = omega (arith, s .room, s .long, f .sizes) in
       rw (en, es, eo, ep)
       (record {
         rs = rest (s .rs);
         here = f .on;
-        long = length-over out put x g ∙ s .long;
-        room = omega (arith, s .room, l);
-        holds = over-over out put x y g2 ∙ ap (over out put) (sym w) ∙ s .holds;
+        long = length-over out put x (omega arith) ∙ s .long;
+        room = omega (arith, s .room, f .sizes);
+        holds = over-over out put x y g ∙ ap (over out put) (sym (f .cuts)) ∙ s .holds;
       })
 
   pub cut-done : (d out₀ out : List ℕ) (st : St) (at put : ℕ) → Cutting d out₀ out st at put → length d ≤ at → length (cut layout c d) ≤ length out₀

@@ -1,0 +1,54 @@
+-- `bgp::change_addresses` meets its contract. Assumes nothing.
+use Rattle.page.specs.Bgp4mp.{addresses}
+use Rattle.flow.proofs.Rules.{flow}
+use borrow.Author.Needs.{needs}
+use Rattle.bgp.proofs.change_addresses.Statement.{statement}
+use Rattle.bgp.proofs.change_addresses.Tie as tie
+
+skip-requires : tie.Need-skip-requires
+skip-requires c κs = search needs
+
+enum-known-a : tie.Need-enum-known-a
+enum-known-a c = search needs
+
+enum-told : tie.Need-enum-told
+enum-told c = search needs
+
+returns : tie.Need-returns
+unfolding addresses
+returns c = search flow depth 12
+
+skip-requires-2 : tie.Need-skip-requires-2
+skip-requires-2 c κs = search needs
+
+enum-known-b : tie.Need-enum-known-b
+enum-known-b c = search needs
+
+enum-told-2 : tie.Need-enum-told-2
+enum-told-2 c = search needs
+
+returns-2 : tie.Need-returns-2
+unfolding addresses
+returns-2 c = search flow depth 12
+
+states-requires : tie.Need-states-requires
+states-requires c κs = search needs
+
+returns-3 : tie.Need-returns-3
+unfolding addresses
+returns-3 c = search flow depth 12
+
+pub change-addresses-spec : {M : Type 1} → statement M
+change-addresses-spec =
+    tie.close
+    (tie.spec
+    skip-requires
+    enum-known-a
+    enum-told
+    returns
+    skip-requires-2
+    enum-known-b
+    enum-told-2
+    returns-2
+    states-requires
+    returns-3)

@@ -1,0 +1,109 @@
+-- `cut_items::fill_news` meets its contract. Assumes nothing.
+use mathlib.Core.Path.{ap, _∙_}
+use mathlib.Core.Bool.{Bool}
+use mathlib.Core.List.{List}
+use Prim.Native.Nat.{ℕ, _-_}
+use native.Mathlib.Omega.{arith}
+use lib.ListN.{drop}
+use borrow.Author.Needs.{needs}
+use Rattle.form.proofs.Octets.{octets-of}
+use Rattle.cutting.specs.Cut.{mem}
+use Rattle.page.specs.Peers.{peer}
+use Rattle.moving.specs.Found.{items}
+use Rattle.moving.proofs.Found.{Next, next}
+use Rattle.cut_items.proofs.News.{Filling, fill-starts, fill-turn, fill-done}
+use Rattle.cut_items.proofs.fill_news.Statement.{statement}
+use Rattle.cut_items.proofs.fill_news.Tie as tie
+
+abbrev gone : List ℕ → ℕ → Bool
+gone mutes n = mem n mutes
+
+abbrev Inv-loop : tie.InvT-loop
+Inv-loop m from count mutes news₀ at₀ i₀ k₀ news at i k = Filling m (gone mutes) (items peer count (drop from m)) news₀ news count at i k
+
+abbrev μ-loop : tie.MeasureT-loop
+μ-loop m from count mutes news₀ at₀ i₀ k₀ news at i k = count - i
+
+-- the peer at `at`, and those behind it
+ahead : (c : tie.In-loop Inv-loop μ-loop) → let a = c .before .before .before .before .before .args in
+    let l = c .before .loop in
+    Next peer (a .m .now) (l .at) (a .count - l .i) (l .inv .its) (l .inv .rest)
+ahead c =
+    let a = c .before .before .before .before .before .args in
+    let l = c .before .loop in
+    next peer (a .m .now) (l .at) (a .count - l .i) (l .inv .its) (l .inv .rest) (l .inv .here) (omega arith)
+
+loop-holds : tie.Need-loop-holds Inv-loop μ-loop
+loop-holds c =
+    let a = c .before .before .before .args in
+    fill-starts (a .m .now) (gone (a .mutes .now)) (a .news .now) (a .from) (a .count)
+    (octets-of (a .m .now) (λ k. omega (arith, c .before .before .shared-slice-known .given k))) (c .before .before .before .pre .0)
+
+peer-as-requires : tie.Need-peer-as-requires Inv-loop μ-loop
+peer-as-requires c κs = ahead c .lies
+
+listed-requires : tie.Need-listed-requires Inv-loop μ-loop
+listed-requires c κs = search needs
+
+index-of-requires : tie.Need-index-of-requires Inv-loop μ-loop
+index-of-requires c κs = search needs
+
+mul-news : tie.Need-mul-news Inv-loop μ-loop
+mul-news c = search needs
+
+slice-write-news : tie.Need-slice-write-news Inv-loop μ-loop
+slice-write-news c = omega (arith, c .before .before .before .before .loop .inv .long)
+
+count-of-requires : tie.Need-count-of-requires Inv-loop μ-loop
+count-of-requires c κs = search needs
+
+peer-size-requires : tie.Need-peer-size-requires Inv-loop μ-loop
+peer-size-requires c κs = ahead (c .before .before .before .before) .lies
+
+add-at : tie.Need-add-at Inv-loop μ-loop
+add-at c = search needs
+
+add-i : tie.Need-add-i Inv-loop μ-loop
+add-i c = search needs
+
+loop-less : tie.Need-loop-less Inv-loop μ-loop
+loop-less c = search needs
+
+loop-again : tie.Need-loop-again Inv-loop μ-loop
+loop-again c =
+    let b = c .before .before .before .before .before in
+    let l = b .before .loop in
+    let a = b .before .before .before .before .before .args in
+    fill-turn (a .m .now) (gone (a .mutes .now)) _ (a .news .now) (l .news) (a .count) (l .at) (l .i) (l .k) _ _ _ _ (l .inv) (search needs) (search needs)
+    (c .peer-size .ensures .0) (c .before .before .before .listed .ensures ∙ ap (gone (a .mutes .now)) (c .before .before .before .before .peer-as .ensures))
+    (c .before .before .index-of .ensures) (c .before .count-of .ensures)
+
+same-length : tie.Need-same-length Inv-loop μ-loop
+same-length c = c .before .loop .inv .long
+
+returns : tie.Need-returns Inv-loop μ-loop
+returns c =
+    let l = c .before .loop in
+    let a = c .before .before .before .before .before .args in
+    fill-done (a .m .now) (gone (a .mutes .now)) _ (a .news .now) (l .news) (a .count) (l .at) (l .i) (l .k) (l .inv) (search needs) (search needs)
+
+pub fill-news-spec : {M : Type 1} → statement M
+fill-news-spec =
+    tie.close
+    (tie.spec
+    Inv-loop
+    μ-loop
+    loop-holds
+    peer-as-requires
+    listed-requires
+    index-of-requires
+    mul-news
+    slice-write-news
+    count-of-requires
+    peer-size-requires
+    add-at
+    add-i
+    loop-less
+    loop-again
+    same-length
+    returns)

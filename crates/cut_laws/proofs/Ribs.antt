@@ -1,0 +1,158 @@
+-- A RIB record keeps the entries of the peers that stay, renumbered, and goes where it had entries and lost them all. Assumes nothing.
+use mathlib.Core.Path.{_≡_, refl, ap, _∙_, subst}
+use mathlib.Core.Bool.{Bool, true, false, cond, _&&_, _||_}
+use mathlib.Core.List.{List, [], _∷_, append-nil}
+use Prim.Native.Nat.{ℕ, suc, _+_, _-_, _≤_, _<_}
+use native.Mathlib.Omega.{arith}
+use lib.Dec.{leb, ltb, eqb}
+use lib.ListN.{length, drop}
+use borrow.Author.Tests.{lt-ltb, ne-eqb}
+use Rattle.form.specs.Octets.{Octets}
+use Rattle.form.specs.Fmt.{Fmt, end, Fits}
+use Rattle.form.specs.Body.{Body, plain, listed, many, joins, BodyFits}
+use Rattle.form.specs.Shape.{Layout, entries, St, noTable, peersOf, plan, after}
+use Rattle.form.specs.Record.{Rec, write, size, next, timeOf}
+use Rattle.form.specs.Dump.{writes}
+use Rattle.form.specs.Put as put
+use Rattle.form.specs.Gives.{tailOf}
+use Rattle.page.specs.Rib.{ribHead, genericHead, entryRest, entry}
+use Rattle.page.specs.Layout.{kind, layoutOf, layout}
+use Rattle.shown.specs.declared.Header.{Header}
+use Rattle.shown.specs.declared.Routes.{Routes}
+use Rattle.shown.specs.declared.Shown.{Shown}
+use Rattle.shown.specs.declared.Shown.the-variants.{Rib, RibGeneric}
+use Rattle.shown.specs.declared.Table.{Table}
+use Rattle.shown.specs.declared.Table.the-variants.{Absent, Holds}
+use Rattle.reading.specs.Answer.{place, time, within}
+use Rattle.reading.specs.One.{readOne}
+use Rattle.round_trip.specs.Tells.{Tells}
+use Rattle.cutting.specs.Cut.{Cut, mem, cutting, numbers, cutEntries, when, unlessEmptied, cutBody, rebody}
+use Rattle.cutting.proofs.Cut.{cutEntries-less}
+use Rattle.moving.specs.Found.{items}
+use Rattle.moving.specs.Moved.{moved}
+use Rattle.moving.specs.One.{Ranked, recOf, cutOne, itemsLeft}
+use Rattle.cut_laws.proofs.Filled.{ranked-cut}
+use Rattle.cut_laws.proofs.Rest.{Rested, rested}
+use Rattle.cut_laws.proofs.Shows.{Shows, shows}
+use Rattle.cut_laws.proofs.Wrote.{wrote}
+use Rattle.cut_laws.proofs.Whole.{length-cond}
+use Rattle.cut_laws.proofs.Items.{withItems, Held, held}
+
+-- ---- one record, for every layout
+
+-- what came without entries stays, and so does what keeps one
+emptied-left : (r : Rec) (cs : List (List ℕ)) (its jts : List (List (List ℕ))) (b : Bool)
+    → writes (rebody r (when b (unlessEmptied its cs jts)) []) ≡ cond b (cond (eqb (length its) 0 || ltb 0 (length jts)) (write (withItems r cs jts)) []) []
+emptied-left r cs its jts false = refl
+emptied-left r cs [] jts true = append-nil (write (withItems r cs jts))
+emptied-left r cs (x ∷ xs) [] true = rw (ne-eqb (suc (length xs)) 0 (λ e. omega arith))
+emptied-left r cs (x ∷ xs) (y ∷ ys) true =
+    rw (ne-eqb (suc (length xs)) 0 (λ e. omega arith), lt-ltb 0 (suc (length ys)) (omega arith)) (append-nil (write (withItems r cs (y ∷ ys))))
+
+left-entries : (lay : ℕ → ℕ → Layout) (c : Cut) (ns : List ℕ) (r : Rec) (f g : Fmt) (cs : List (List ℕ)) (its jts : List (List (List ℕ))) → lay (r .type) (r .sub) ≡ entries f g
+    → r .body ≡ listed cs its → jts ≡ cutEntries (c .gone) ns its
+    → (writes (cutOne lay c (peersOf ns) r) ≡ cond (c .inside (timeOf lay r)) (cond (eqb (length its) 0 || ltb 0 (length jts)) (write (withItems r cs jts)) []) []) × (next lay r (peersOf ns) ≡ peersOf ns)
+unfolding cutBody next after
+left-entries lay c ns r f g cs its jts e b j = (
+  ap (λ (l : Layout). writes (rebody r (cutBody c ns l (timeOf lay r) (r .body)) [])) e
+      ∙ ap (λ (y : Body). writes (rebody r (cutBody c ns (entries f g) (timeOf lay r) y) [])) b
+      ∙ rw j (emptied-left r cs its (cutEntries (c .gone) ns its) (c .inside (timeOf lay r))),
+  ap (λ (l : Layout). after l (r .body) (peersOf ns)) e,
+)
+
+-- ---- the page's
+
+-- a RIB record stands only where a table is in force
+tabled : (st : St) (f g : Fmt) (b : Body) → BodyFits (plan st (entries f g)) b → st ≡ peersOf (numbers st)
+unfolding plan BodyFits Fits
+tabled noTable f g (plain cs) h = absurd (omega (arith, h .0))
+tabled (peersOf ns) f g b h = refl
+
+-- the entries of the RIB record e, shown of the record at `at` of d, and those that stay
+abbrev pub entriesIn : (d : List ℕ) (at : ℕ) → St → Routes → List (List (List ℕ))
+entriesIn d at st e = items (entry (length (numbers st))) (e .count) (drop (at + e .entries .at) d)
+
+abbrev pub entriesLeft : (news d : List ℕ) (at : ℕ) → St → Routes → List (List (List ℕ))
+entriesLeft news d at st e = moved news (entriesIn d at st e)
+
+pub record RibLeft (most from to : ℕ) (ms news d : List ℕ) (at : ℕ) (st : St) (x : Shown) (h : Header) (e : Routes) : Type 0 where
+  pub shown : Shows most d at st x
+  pub table : st ≡ peersOf (numbers st)
+  pub held : Held d at (recOf (layout most) st (drop at d)) (entry (length (numbers st))) (e .entries .at) (e .count)
+  pub left : writes (cutOne (layout most) (cutting from to ms) st (recOf (layout most) st (drop at d)))
+      ≡ cond (leb from (time h) && ltb (time h) to)
+      (cond (eqb (e .count) 0 || ltb 0 (length (entriesLeft news d at st e))) (itemsLeft d at (e .entries .at - 14) (entriesLeft news d at st e)) []) []
+  pub sized : length (writes (cutOne (layout most) (cutting from to ms) st (recOf (layout most) st (drop at d))))
+      ≡ cond (leb from (time h) && ltb (time h) to)
+      (cond (eqb (e .count) 0 || ltb 0 (length (entriesLeft news d at st e))) (e .entries .at + length (joins (entriesLeft news d at st e))) 0) 0
+  pub fewer : length (entriesLeft news d at st e) ≤ e .count
+  pub less : length (joins (entriesLeft news d at st e)) ≤ length (joins (entriesIn d at st e))
+  pub next : next (layout most) (recOf (layout most) st (drop at d)) st ≡ st
+
+module _ (most from to : ℕ) (ms news d : List ℕ) (at : ℕ) where
+  entries-left : (st : St) → Ranked (λ n. mem n ms) news st → (x : Shown) → Shows most d at st x → (h : Header) (e : Routes) (f : Fmt)
+      → layout most (recOf (layout most) st (drop at d) .type) (recOf (layout most) st (drop at d) .sub) ≡ entries f entryRest
+      → time h ≡ timeOf (layout most) (recOf (layout most) st (drop at d)) → e .entries .at + e .entries .size ≡ place x
+      → put.items (e .count) (within (drop at d) (e .entries)) ≡ tailOf (recOf (layout most) st (drop at d) .body) → RibLeft most from to ms news d at st x h e
+  unfolding plan entry
+  entries-left noTable k x w h e f l clock reach tail =
+      let z = tabled noTable f entryRest (recOf (layout most) noTable (drop at d) .body) (subst (λ (y : Layout). BodyFits (plan noTable y) (recOf (layout most) noTable (drop at d) .body)) l (w .read .valid .fits)) in
+      absurd (differ z)
+    where
+      differ : noTable ≡ peersOf [] → ⊥
+      differ z = let y : _≡_ {A = ℕ} 0 1 = cc in omega arith
+  entries-left (peersOf ns) k x w h e f l clock reach tail =
+      let st : St = peersOf ns in
+      let r : Rec = recOf (layout most) st (drop at d) in
+      let fits : BodyFits (many f (entry (length ns))) (r .body) = subst (λ (y : Layout). BodyFits (plan st y) (r .body)) l (w .read .valid .fits) in
+      let i = held d at r (w .read .rest) (w .read .lie) (w .read .valid .size) f (entry (length ns)) (e .entries) (e .count) (reach ∙ w .ends) fits tail in
+      let its : List (List (List ℕ)) = entriesIn d at st e in
+      let j : moved news its ≡ cutEntries (λ n. mem n ms) ns its = ranked-cut (λ n. mem n ms) ns entryRest news k its (i .fit) in
+      let z = left-entries (layout most) (cutting from to ms) ns r f entryRest (i .fields) its (moved news its) l (i .body) j in
+      let b : Bool = leb from (time h) && ltb (time h) to in
+      let some : Bool = eqb (e .count) 0 || ltb 0 (length (moved news its)) in
+      let q : writes (cutOne (layout most) (cutting from to ms) st r) ≡ cond b (cond some (itemsLeft d at (e .entries .at - 14) (moved news its)) []) [] =
+      z .0 ∙ rw (i .many, ← clock, i .other (moved news its)) in
+      let u = cutEntries-less (λ n. mem n ms) ns entryRest its (i .fit) in
+      record {
+        shown = w;
+        table = refl;
+        held = i;
+        left = q;
+        sized = ap length q ∙ length-cond b _ ∙ ap (λ (k : ℕ). cond b k 0) (length-cond some _ ∙ ap (λ (k : ℕ). cond some k 0) (i .long (moved news its)));
+        fewer = rw j (omega (arith, u .0, i .many));
+        less = rw j (u .1);
+        next = z .1;
+      }
+
+  module _ (oc : Octets d) (more : at < length d) (t : Table) (st : St) (tells : Tells t st) (ranked : Ranked (λ n. mem n ms) news st) where
+    pub rib-left : (h : Header) (e : Routes) → readOne most t (drop at d) ≡ Rib h e → RibLeft most from to ms news d at st (Rib h e) h e
+    unfolding layout layoutOf
+    rib-left h e q =
+        let r : Rec = recOf (layout most) st (drop at d) in
+        let w = shows most d oc at more t st tells (Rib h e) q refl in
+        let k = wrote (kind (r .type) (r .sub)) 3 (w .same .whose) (omega arith) in
+        entries-left st ranked (Rib h e) w h e (ribHead (k .0) (end 0)) (ap (layoutOf most) (k .1)) (w .same .timed) (subst Rested q (rested most t (drop at d))) (w .same .gives .tail)
+
+    pub generic-left : (h : Header) (family safi : ℕ) (e : Routes) → readOne most t (drop at d) ≡ RibGeneric h family safi e
+        → RibLeft most from to ms news d at st (RibGeneric h family safi e) h e
+    unfolding layout layoutOf
+    generic-left h f i e q =
+        let r : Rec = recOf (layout most) st (drop at d) in
+        let w = shows most d oc at more t st tells (RibGeneric h f i e) q refl in
+        let k = wrote (kind (r .type) (r .sub)) 4 (w .same .whose) (omega arith) in
+        entries-left st ranked (RibGeneric h f i e) w h e (genericHead (end 0)) (ap (layoutOf most) k) (w .same .timed) (subst Rested q (rested most t (drop at d))) (w .same .gives .tail)
+
+-- the new indexes are as many as the table's peers
+pub ranked-room : (g : ℕ → Bool) (news : List ℕ) (st : St) → Ranked g news st → length (numbers st) ≤ length news
+unfolding Ranked
+ranked-room g news noTable h = omega arith
+ranked-room g news (peersOf ns) h = h .1
+
+-- a table of n peers that is told is in force
+pub tells-peers : (n : ℕ) (st : St) → Tells (Holds n) st → (st ≡ peersOf (numbers st)) × (n ≡ length (numbers st))
+tells-peers n (peersOf ns) h = (refl, h)
+
+-- and without one none is
+pub tells-none : (st : St) → Tells Absent st → st ≡ peersOf (numbers st) → ⊥
+tells-none noTable h e = let z : _≡_ {A = ℕ} 0 1 = cc in omega arith

@@ -1,0 +1,95 @@
+-- A peer table stays, without the peers that go, and its peers are then those of the table in force. Assumes nothing.
+use mathlib.Core.Path.{_≡_, refl, sym, ap, _∙_, subst}
+use mathlib.Core.Bool.{true}
+use mathlib.Core.List.{List, [], _∷_, append-nil, map}
+use Prim.Native.Nat.{ℕ, suc, _+_, _-_, _≤_, _<_}
+use native.Mathlib.Omega.{arith}
+use lib.ListN.{length, drop}
+use Rattle.form.specs.Octets.{Octets}
+use Rattle.form.specs.Fmt.{Fmt, end}
+use Rattle.form.specs.Body.{Body, listed, many, joins, BodyFits}
+use Rattle.form.specs.Shape.{Layout, table, St, peersOf, plan, after, asOf}
+use Rattle.form.specs.Record.{Rec, write, size, next, timeOf}
+use Rattle.form.specs.Dump.{writes}
+use Rattle.page.specs.Peers.{tableHead, peer}
+use Rattle.page.specs.Layout.{kind, layoutOf, layout}
+use Rattle.shown.specs.declared.Header.{Header}
+use Rattle.shown.specs.declared.Peers.{Peers}
+use Rattle.shown.specs.declared.Shown.the-variants.{PeerTable}
+use Rattle.shown.specs.declared.Table.{Table}
+use Rattle.shown.specs.declared.Table.the-variants.{Holds}
+use Rattle.reading.specs.One.{readOne}
+use Rattle.round_trip.specs.Tells.{Tells}
+use Rattle.cutting.specs.Keep.{kept}
+use Rattle.cutting.specs.Cut.{Cut, mem, cutting, numbers, cutBody, rebody}
+use Rattle.cutting.proofs.Keep.{kept-length}
+use Rattle.cutting.proofs.Cut.{joins-kept}
+use Rattle.copy.specs.Over.{over}
+use Rattle.moving.specs.Found.{items}
+use Rattle.moving.specs.Moved.{newFrom}
+use Rattle.moving.specs.One.{told, Ranked, recOf, cutOne, itemsLeft}
+use Rattle.cut_laws.proofs.Filled.{filled}
+use Rattle.cut_laws.proofs.Rest.{Rested, rested}
+use Rattle.cut_laws.proofs.Shows.{Shows, shows}
+use Rattle.cut_laws.proofs.Wrote.{wrote}
+use Rattle.cut_laws.proofs.Items.{withItems, Held, held}
+
+left-table : (lay : ℕ → ℕ → Layout) (c : Cut) (st : St) (r : Rec) (f g : Fmt) (cs : List (List ℕ)) (its : List (List (List ℕ))) → lay (r .type) (r .sub) ≡ table f g → r .body ≡ listed cs its
+    → (writes (cutOne lay c st r) ≡ write (withItems r cs (kept (λ it. c .gone (asOf g it)) its))) × (next lay r st ≡ peersOf (map (asOf g) its))
+unfolding cutBody next after
+left-table lay c st r f g cs its e b = (
+  ap (λ (l : Layout). writes (rebody r (cutBody c (numbers st) l (timeOf lay r) (r .body)) [])) e
+      ∙ ap (λ (y : Body). writes (rebody r (cutBody c (numbers st) (table f g) (timeOf lay r) y) [])) b
+      ∙ append-nil (write (withItems r cs (kept (λ it. c .gone (asOf g it)) its))),
+  ap (λ (l : Layout). after l (r .body) st) e ∙ ap (λ (y : Body). after (table f g) y st) b,
+)
+
+-- the peers of the table p, shown of the record at `at` of d
+abbrev pub peersIn : (d : List ℕ) (at : ℕ) → Peers → List (List (List ℕ))
+peersIn d at p = items peer (p .count) (drop (at + p .peers .at) d)
+
+-- those that stay
+abbrev pub peersLeft : (ms d : List ℕ) (at : ℕ) → Peers → List (List (List ℕ))
+peersLeft ms d at p = kept (λ it. mem (asOf peer it) ms) (peersIn d at p)
+
+pub record TableLeft (most from to : ℕ) (ms d : List ℕ) (at : ℕ) (st : St) (h : Header) (p : Peers) : Type 0 where
+  pub shown : Shows most d at st (PeerTable h p)
+  pub held : Held d at (recOf (layout most) st (drop at d)) peer (p .peers .at) (p .count)
+  pub left : writes (cutOne (layout most) (cutting from to ms) st (recOf (layout most) st (drop at d))) ≡ itemsLeft d at (p .peers .at - 14) (peersLeft ms d at p)
+  pub sized : length (writes (cutOne (layout most) (cutting from to ms) st (recOf (layout most) st (drop at d)))) ≡ p .peers .at + length (joins (peersLeft ms d at p))
+  pub fewer : length (peersLeft ms d at p) ≤ p .count
+  pub less : length (joins (peersLeft ms d at p)) ≤ length (joins (peersIn d at p))
+  pub next : next (layout most) (recOf (layout most) st (drop at d)) st ≡ told peer d true (at + p .peers .at) (p .count)
+  pub tells : Tells (Holds (p .count)) (told peer d true (at + p .peers .at) (p .count))
+  -- the new indexes that are filled in for it
+  pub ranked : (news : List ℕ) → p .count ≤ length news
+      → Ranked (λ n. mem n ms) (over news 0 (newFrom (λ n. mem n ms) (map (asOf peer) (peersIn d at p)) 0)) (told peer d true (at + p .peers .at) (p .count))
+
+length-map : {A B : Type 0} (f : A → B) (xs : List A) → length (map f xs) ≡ length xs
+length-map f [] = refl
+length-map f (x ∷ xs) = ap suc (length-map f xs)
+
+module _ (most from to : ℕ) (ms d : List ℕ) (oc : Octets d) (at : ℕ) (more : at < length d) (t : Table) (st : St) (tells : Tells t st) where
+  pub table-left : (h : Header) (p : Peers) → readOne most t (drop at d) ≡ PeerTable h p → TableLeft most from to ms d at st h p
+  unfolding layout layoutOf plan told
+  table-left h p e =
+      let r : Rec = recOf (layout most) st (drop at d) in
+      let w = shows most d oc at more t st tells (PeerTable h p) e refl in
+      let k = wrote (kind (r .type) (r .sub)) 2 (w .same .whose) (omega arith) in
+      let l : layout most (r .type) (r .sub) ≡ table (tableHead (end 0)) peer = ap (layoutOf most) k in
+      let reach : p .peers .at + p .peers .size ≡ size r = subst Rested e (rested most t (drop at d)) ∙ w .ends in
+      let fits : BodyFits (many (tableHead (end 0)) peer) (r .body) = subst (λ (x : Layout). BodyFits (plan st x) (r .body)) l (w .read .valid .fits) in
+      let i = held d at r (w .read .rest) (w .read .lie) (w .read .valid .size) (tableHead (end 0)) peer (p .peers) (p .count) reach fits (w .same .gives .tail) in
+      let z = left-table (layout most) (cutting from to ms) st r (tableHead (end 0)) peer (i .fields) (peersIn d at p) l (i .body) in
+      let m : length (map (asOf peer) (peersIn d at p)) ≡ p .count = length-map (asOf peer) (peersIn d at p) ∙ i .many in
+      record {
+        shown = w;
+        held = i;
+        left = z .0 ∙ i .other (peersLeft ms d at p);
+        sized = ap length (z .0 ∙ i .other (peersLeft ms d at p)) ∙ i .long (peersLeft ms d at p);
+        fewer = omega (arith, kept-length (λ it. mem (asOf peer it) ms) (peersIn d at p), i .many);
+        less = joins-kept (λ it. mem (asOf peer it) ms) (peersIn d at p);
+        next = z .1;
+        tells = sym m;
+        ranked = λ news b. filled (λ n. mem n ms) (map (asOf peer) (peersIn d at p)) news (omega (arith, m, i .few)) (omega (arith, m));
+      }
