@@ -1,0 +1,12 @@
+-- `cut::whole_if` meets its contract. Assumes nothing.
+use Rattle.cut.proofs.whole_if.Statement.{statement}
+use Rattle.cut.proofs.whole_if.Tie as tie
+
+returns : tie.Need-returns
+returns c = rw (c .if1 .taken)
+
+returns-2 : tie.Need-returns-2
+returns-2 c = rw (c .if1 .left)
+
+pub whole-if-spec : {M : Type 1} → statement M
+whole-if-spec = tie.close (tie.spec returns returns-2)
