@@ -1,12 +1,15 @@
 -- What the cases of a record leave is what is left of it. Assumes nothing.
 use mathlib.Core.Path.{_≡_, refl, sym, ap, _∙_, subst}
 use mathlib.Core.Bool.{Bool, true, false, cond, not, _&&_, _||_}
-use mathlib.Core.List.{List, []}
+use mathlib.Core.List.{List, [], _∷_}
 use Prim.Native.Nat.{ℕ, zero, suc, _+_, _-_, _≤_, _<_}
 use native.Mathlib.Omega.{arith}
 use lib.Dec.{leb, ltb, eqb}
 use lib.ListN.{length, drop}
+use types.Run.{OneOf, miss}
+use denote.Enum.Declared.{tagOf}
 use borrow.Author.Tests.{lt-ltb, ne-eqb}
+use Rattle.shown.proofs.Shown.{the-type}
 use Rattle.form.specs.Octets.{Octets}
 use Rattle.form.specs.Shape.{St, peersOf}
 use Rattle.form.specs.Record.{next}
@@ -205,16 +208,16 @@ module _ {from to : ℕ} {ms news d : List ℕ} {at : ℕ} {f : InForce} {x : Sh
 
   -- ---- the table in force behind it
 
-  same-state : (y : Shown) → x ≡ y → ((h : Header) (p : table.Peers) → y ≡ PeerTable h p → ⊥) → st ≡ next mrt (recAt d f at) st
+  same-state : (y : Shown) → x ≡ y → OneOf (0 ∷ 1 ∷ 2 ∷ 3 ∷ 5 ∷ 6 ∷ 7 ∷ 8 ∷ []) (tagOf the-type y) → st ≡ next mrt (recAt d f at) st
   same-state Nothing e n = absurd (not-nothing e)
   same-state (Refused a b) e n = absurd (not-refused a b e)
   same-state (Unread h p) e n = sym (whole-unread h p e .next)
   same-state (TableDump h r) e n = sym (whole-table-dump h r e .next)
-  same-state (PeerTable h p) e n = absurd (n h p refl)
+  same-state (PeerTable h p) e n = absurd (miss (0 ∷ 1 ∷ 2 ∷ 3 ∷ 5 ∷ 6 ∷ 7 ∷ 8 ∷ []) 4 tt n)
   same-state (Rib h r) e n = sym (rib-here h r e .left .next)
   same-state (RibGeneric h a i r) e n = sym (generic-here h a i r e .left .next)
   same-state (Change h r o k) e n = sym (whole-change h r o k e .next)
   same-state (Message h r p k) e n = sym (whole-message h r p k e .next)
 
-  pub table-stays : ((h : Header) (p : table.Peers) → x ≡ PeerTable h p → ⊥) → st ≡ next mrt (recAt d f at) st
+  pub table-stays : OneOf (0 ∷ 1 ∷ 2 ∷ 3 ∷ 5 ∷ 6 ∷ 7 ∷ 8 ∷ []) (tagOf the-type x) → st ≡ next mrt (recAt d f at) st
   table-stays n = same-state x refl n

@@ -16,7 +16,7 @@ enum-known-x : tie.Need-enum-known-x
 enum-known-x c = search needs
 
 returns : tie.Need-returns
-returns c = let h = here (c .before .before .before) in (table-stays h (λ k p e. c .match .keys2 (rw e)), h .stands .step)
+returns c = let h = here (c .before .before .before) in (table-stays h (c .match .keys2), h .stands .step)
 
 add-from : tie.Need-add-from
 add-from c = let h = peers-lie (table-here (here (c .before .before .before .before .before .before)) _ _ (c .before .before .x .given .1)) .1 in search needs
