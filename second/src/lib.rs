@@ -1,12 +1,15 @@
-//! A second reader and writer of MRT dumps, made to be compared with another
-//! one. Records are plain values: they are read from a [`reader::Reader`],
+//! A second reader, writer and cutter of MRT dumps, made to be compared with
+//! another one. Records are plain values: they are read from a [`reader::Reader`],
 //! can be looked at, changed or filtered, and are put back by a
 //! [`writer::Writer`].
 
 pub mod attributes;
 pub mod bgp4mp;
+pub mod cut;
+pub mod cut_cases;
 pub mod dump;
 pub mod fault;
+mod files;
 pub mod layout;
 pub mod listing;
 pub mod net;

@@ -1,5 +1,7 @@
 //! The command line.
 
+use second::cut::cut;
+use second::cut_cases::Book;
 use second::dump::Dump;
 use second::listing::listing;
 use second::sample;
@@ -7,11 +9,14 @@ use second::vectors::Suite;
 use std::io::{self, Write};
 use std::path::Path;
 use std::process::ExitCode;
+use std::str::FromStr;
 use std::{env, fs};
 
 const USAGE: &str = "usage: second list FILE..
        second roundtrip FILE..
+       second cut FILE START END [AS..] > OUT
        second vectors DIR
+       second cuts DIR
        second sample FILE";
 
 fn main() -> ExitCode {
@@ -34,6 +39,8 @@ fn run(arguments: &[String]) -> io::Result<bool> {
         ("list", [_, ..]) => list(operands),
         ("roundtrip", [_, ..]) => roundtrip(operands),
         ("vectors", [directory]) => Suite::generate().write_to(Path::new(directory)).map(|()| true),
+        ("cut", [file, start, end, list @ ..]) => cut_file(file, start, end, list),
+        ("cuts", [directory]) => Book::generate().write_to(Path::new(directory)).map(|()| true),
         ("sample", [file]) => fs::write(file, sample::octets()).map(|()| true),
         _ => Err(io::Error::other(USAGE)),
     }
@@ -68,4 +75,21 @@ fn roundtrip(files: &[String]) -> io::Result<bool> {
         all_same &= same;
     }
     Ok(all_same)
+}
+
+/// Writes what is left of a file to standard output, or says why nothing is.
+fn cut_file(file: &str, start: &str, end: &str, list: &[String]) -> io::Result<bool> {
+    let list = list.iter().map(|asn| number(asn)).collect::<io::Result<Vec<u32>>>()?;
+    let (start, end, dump) = (number(start)?, number(end)?, read(file)?);
+    let answer = cut(&dump, start, end, &list, dump.len());
+    if answer.fault != 0 {
+        eprintln!("{file}: fault={} place={}", answer.fault, answer.place);
+        return Ok(false);
+    }
+    io::stdout().write_all(&answer.octets)?;
+    Ok(true)
+}
+
+fn number<T: FromStr>(text: &str) -> io::Result<T> {
+    text.parse().map_err(|_| io::Error::other(format!("{text}: not a number that fits here")))
 }

@@ -17,7 +17,9 @@ use Rattle.round_trip.specs.Tells.{Tells}
 use Rattle.walking.specs.Walked.{walked}
 use Rattle.cutting.specs.Cut.{cutting}
 use Rattle.copy.specs.Over.{over}
-use Rattle.cut_laws.specs.Answer.{Cutted, octets, refused, leftOf, cutted, holds, cutAnswer, leaves}
+use Rattle.cutting.specs.declared.Cutted.{Cutted}
+use Rattle.cutting.specs.declared.Cutted.the-variants as answer
+use Rattle.cut_laws.specs.Answer.{leftOf, cutted, holds, cutAnswer, leaves}
 use Rattle.cut_laws.proofs.Checked.{Measuring, check-done, check-fault}
 use Rattle.cut_laws.proofs.Shows.{shows-fault}
 
@@ -27,25 +29,25 @@ module _ (most from to : ℕ) (ms d out : List ℕ) where
   Gives a xs = (a ≡ cutAnswer most from to ms d out) × (xs ≡ leaves most from to ms d out)
 
   -- the window's start is after its end
-  pub gives-window : to < from → Gives (refused 14 0) out
+  pub gives-window : to < from → Gives (answer.Refused 14 0) out
   unfolding cutAnswer leaves choose
   gives-window h = rw (lt-ltb to from h) (refl, refl)
 
   module _ (window : from ≤ to) where
     -- the dump has a fault
-    pub gives-fault : (n p : ℕ) → (n ≡ 0 → ⊥) → walked most d .fault ≡ n → walked most d .place ≡ p → Gives (refused n p) out
+    pub gives-fault : (n p : ℕ) → (n ≡ 0 → ⊥) → walked most d .fault ≡ n → walked most d .place ≡ p → Gives (answer.Refused n p) out
     unfolding cutAnswer leaves cutted holds choose
     gives-fault zero p z e f = absurd (z refl)
     gives-fault (suc n) p z e f = rw (le-ltb to from window, e, f) (refl, refl)
 
     -- what is left does not go into out
-    pub gives-room : walked most d .fault ≡ 0 → length out < length (leftOf most from to ms d) → Gives (refused 15 0) out
+    pub gives-room : walked most d .fault ≡ 0 → length out < length (leftOf most from to ms d) → Gives (answer.Refused 15 0) out
     unfolding cutAnswer leaves cutted holds choose
     gives-room e h = rw (le-ltb to from window, e, lt-ltb (length out) (length (leftOf most from to ms d)) h) (refl, refl)
 
     -- it does
     pub gives-octets : walked most d .fault ≡ 0 → length (leftOf most from to ms d) ≤ length out
-        → Gives (octets (length (leftOf most from to ms d))) (leftOf most from to ms d ++ drop (length (leftOf most from to ms d)) out)
+        → Gives (answer.Octets (length (leftOf most from to ms d))) (leftOf most from to ms d ++ drop (length (leftOf most from to ms d)) out)
     unfolding cutAnswer leaves cutted holds choose
     gives-octets e h = rw (le-ltb to from window, e, le-ltb (length out) (length (leftOf most from to ms d)) h) (refl, refl)
 

@@ -6,16 +6,17 @@ mod cuts;
 mod examples;
 mod order;
 mod places;
-mod random;
+pub(crate) mod random;
 pub mod rng;
-mod shapes;
-mod sketch;
+pub(crate) mod shapes;
+pub(crate) mod sketch;
 mod tables;
 
+use crate::files;
 use crate::listing::listing;
 use std::collections::{BTreeMap, BTreeSet};
+use std::io;
 use std::path::Path;
-use std::{fs, io};
 
 /// What the maker of a vector meant a reader to find.
 #[derive(Clone, Copy, Debug, PartialEq, Eq)]
@@ -87,30 +88,8 @@ impl Suite {
 
     /// Writes `data/NAME`, `args` and `stdout` below the directory.
     pub fn write_to(&self, directory: &Path) -> io::Result<()> {
-        let data = directory.join("data");
-        fs::create_dir_all(&data)?;
-        self.refuse_strangers(&data)?;
-        for (name, vector) in &self.vectors {
-            fs::write(data.join(name), &vector.octets)?;
-        }
-        fs::write(directory.join("args"), self.names())?;
-        fs::write(directory.join("stdout"), self.listings())
-    }
-
-    /// Files of an earlier set would be in nobody's list.
-    fn refuse_strangers(&self, data: &Path) -> io::Result<()> {
-        for entry in fs::read_dir(data)? {
-            let name = entry?.file_name();
-            let name = name.to_string_lossy();
-            if !self.vectors.contains_key(name.as_ref()) {
-                return Err(io::Error::other(format!("{name} in data/ is no vector")));
-            }
-        }
-        Ok(())
-    }
-
-    fn names(&self) -> String {
-        self.vectors.keys().map(|name| format!("{name}\n")).collect()
+        let data = self.iter().map(|(name, vector)| (name, vector.octets.clone())).collect();
+        files::write_set(directory, &data, &self.listings())
     }
 
     fn listings(&self) -> String {

@@ -25,7 +25,7 @@ pub fn add(suite: &mut Suite) {
 }
 
 /// One to three octets changed, or some taken out of the middle.
-fn spoiled(mut octets: Vec<u8>, rng: &mut Rng) -> Vec<u8> {
+pub fn spoiled(mut octets: Vec<u8>, rng: &mut Rng) -> Vec<u8> {
     if rng.below(4) == 0 {
         let from = rng.below(octets.len());
         let upto = (from + 1 + rng.below(3)).min(octets.len());
