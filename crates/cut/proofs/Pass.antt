@@ -18,6 +18,7 @@ use Rattle.walking.specs.Walked.{walked}
 use Rattle.cutting.specs.Cut.{cutting}
 use Rattle.copy.specs.Over.{over}
 use Rattle.moving.specs.One.{told, Ranked, Reads, cutOne}
+use Rattle.cut_laws.specs.Answer.{leftOf}
 use Rattle.cut_laws.proofs.Shows.{shows-good}
 use Rattle.cut_laws.proofs.Checked.{Measuring, check-starts, check-total, check-turn}
 use Rattle.cut_laws.proofs.Loop.{Cutting, front, cut-starts, cut-room, cut-turn, cut-done}
@@ -25,7 +26,6 @@ use Rattle.cut_laws.proofs.Answers.{pass-done, pass-fault}
 use Rattle.cut.specs.State.{mrt, stateOf, tableOf, recAt}
 use Rattle.cut.specs.Left.{leftOctets, Sound, peersLeft, entriesLeft, Small, sizeOf}
 use Rattle.cut.specs.Stands.{InStep, Stands}
-use Rattle.cut.specs.Answer.{left}
 use Rattle.cut.specs.declared.InForce.{InForce}
 use Rattle.cut.specs.declared.Left.{Left}
 use Rattle.cut.specs.declared.Left.the-variants.{Gone, Whole, Peers, Entries}
@@ -100,7 +100,7 @@ unfolding told
 first-starts from to ms d news = record { long = refl; step = starts ms news d; measured = check-starts mrt (cutting from to ms) d }
 
 module _ {from to : ℕ} {ms d news₀ news : List ℕ} {at total : ℕ} {f : InForce} (oc : Octets d) (i : First from to ms d news₀ news at total f) where
-  pub first-done : length d ≤ at → Splits mrt d × (total ≡ length (left from to ms d)) × (walked 4096 d .fault ≡ 0)
+  pub first-done : length d ≤ at → Splits mrt d × (total ≡ length (leftOf 4096 from to ms d)) × (walked 4096 d .fault ≡ 0)
   first-done h = let e = pass-done 4096 from to ms d oc (stateOf d f) at total (i .measured) h in (e .1, e .0, e .2)
 
   module _ (more : at < length d) (t : Table) (x : Shown) (e : t ≡ tableOf f) (r : x ≡ readOne 4096 t (take (length d - at) (drop at d))) where
@@ -142,8 +142,8 @@ pub second-starts : (from to : ℕ) (ms d news out : List ℕ) → Splits mrt d 
 unfolding told
 second-starts from to ms d news out s = record { long = refl; step = starts ms news d; laid = cut-starts mrt (cutting from to ms) d out s }
 
-module _ {from to : ℕ} {ms d news₀ news out₀ out : List ℕ} {at put : ℕ} {f : InForce} (i : Second from to ms d news₀ news out₀ out at put f) (room : length (left from to ms d) ≤ length out₀) where
-  pub second-done : length d ≤ at → out ≡ over out₀ 0 (left from to ms d)
+module _ {from to : ℕ} {ms d news₀ news out₀ out : List ℕ} {at put : ℕ} {f : InForce} (i : Second from to ms d news₀ news out₀ out at put f) (room : length (leftOf 4096 from to ms d) ≤ length out₀) where
+  pub second-done : length d ≤ at → out ≡ over out₀ 0 (leftOf 4096 from to ms d)
   second-done h = cut-done mrt (cutting from to ms) d out₀ out (stateOf d f) at put (i .laid) h room .1
 
   pub second-here : Octets d → at < length d → (t : Table) (x : Shown) → t ≡ tableOf f → x ≡ readOne 4096 t (take (length d - at) (drop at d)) → Here from to ms news d at f x

@@ -1,4 +1,3 @@
 pub mod State
 pub mod Left
-pub mod Answer
 pub mod Stands

@@ -12,8 +12,8 @@ use Rattle.round_trip.specs.Tells.{Tells}
 use Rattle.walking.specs.Walked.{walked}
 use Rattle.cutting.specs.Cut.{mem}
 use Rattle.moving.specs.One.{Ranked}
+use Rattle.cut_laws.specs.Answer.{leftOf}
 use Rattle.cut.specs.State.{mrt, stateOf, tableOf, recAt}
-use Rattle.cut.specs.Answer.{left}
 use Rattle.cut.specs.declared.InForce.{InForce}
 use Rattle.cut.specs.declared.Measured.{Measured}
 use Rattle.cut.specs.declared.Measured.the-variants.{Total, Fault}
@@ -32,5 +32,5 @@ pub record Stands (ms news d : List ℕ) (at : ℕ) (f : InForce) (x : Shown) : 
 
 -- the first pass' answer
 abbrev pub Measures : (from to : ℕ) (ms d : List ℕ) → Measured → Type 0
-Measures from to ms d (Total n) = Splits mrt d × (n ≡ length (left from to ms d)) × (walked 4096 d .fault ≡ 0)
+Measures from to ms d (Total n) = Splits mrt d × (n ≡ length (leftOf 4096 from to ms d)) × (walked 4096 d .fault ≡ 0)
 Measures from to ms d (Fault n p) = (0 < n) × (n ≡ walked 4096 d .fault) × (p ≡ walked 4096 d .place)

@@ -13,11 +13,11 @@ ghost use Rattle.copy.specs.Over.{over};
 ghost use Rattle.cutting.specs.Cut.{mem, cutting};
 ghost use Rattle.moving.specs.Found.{Lie};
 ghost use Rattle.moving.specs.One.{cutOne};
+ghost use Rattle.cut_laws.specs.Answer.{leftOf, cutAnswer, leaves};
 ghost use Rattle.cut.specs.State.{mrt, stateOf, tableOf, recAt};
 ghost use Rattle.cut.specs.Left.{leftOctets, Sound, Small, sizeOf, frontLeft, PeersOf, EntriesOf};
 ghost use Rattle.cut.specs.Stands.{InStep, Stands, Measures};
 ghost use Rattle.cut.specs.declared.Left.the-variants.{Gone, Whole};
-ghost use Rattle.cut.specs.Answer.{left, cutAnswer, cutLeaves};
 use copy::copy;
 use cut_items::fill_news;
 use cut_items::listed;
@@ -340,8 +340,8 @@ fn measure(d: &[u8], start: u64, end: u64, mutes: &[u32], news: &mut [u32]) -> M
 fn write_cut(d: &[u8], start: u64, end: u64, mutes: &[u32], news: &mut [u32], out: &mut [u8])
     requires { ⌜ Splits mrt (now d) ⌝ }
     requires { ⌜ length (now news) ≡ 65536 ⌝ }
-    requires { ⌜ length (left start end (now mutes) (now d)) ≤ length (now out) ⌝ }
-    ensures { λ _. ⌜ now (out .exit) ≡ over (now (out .entry)) 0 (left start end (now (mutes .entry)) (now (d .entry))) ⌝ }
+    requires { ⌜ length (leftOf 4096 start end (now mutes) (now d)) ≤ length (now out) ⌝ }
+    ensures { λ _. ⌜ now (out .exit) ≡ over (now (out .entry)) 0 (leftOf 4096 start end (now (mutes .entry)) (now (d .entry))) ⌝ }
 {
     let mut at = 0;
     let mut put = 0;
@@ -362,7 +362,7 @@ fn write_cut(d: &[u8], start: u64, end: u64, mutes: &[u32], news: &mut [u32], ou
 
 // What is left of a dump inside the window from start up to but not including end, without the peers whose AS is on the list.
 pub fn cut(dump: &[u8], start: u64, end: u64, mutes: &[u32], out: &mut [u8]) -> Cutted
-    ensures { λ r. ⌜ (r ≡ cutAnswer start end (now (mutes .entry)) (now (dump .entry)) (now (out .entry))) × (now (out .exit) ≡ cutLeaves start end (now (mutes .entry)) (now (dump .entry)) (now (out .entry))) ⌝ }
+    ensures { λ r. ⌜ (r ≡ cutAnswer 4096 start end (now (mutes .entry)) (now (dump .entry)) (now (out .entry))) × (now (out .exit) ≡ leaves 4096 start end (now (mutes .entry)) (now (dump .entry)) (now (out .entry))) ⌝ }
 {
     if end < start {
         return Cutted::Refused(14, 0);
