@@ -70,18 +70,20 @@ module _ {from to : ℕ} {ms d : List ℕ} {at : ℕ} {st : St} where
     by-peers news (Peers i) (a, b, k, n, m) =
         let z = peers-lie in
         let n2 = rw (a, k) at n in
-        let m2 = rw (a, k) at m in
-        (rw (a, b, k) (sym (w .left)), (
-          rw (a, k) (z .2),
-          record {
-            starts = omega (arith, z .0);
-            inside = omega (arith, z .1);
-            kept = n;
-            octets = m;
-            few = omega (arith, w .fewer, w .held .few, n2);
-            fits = omega (arith, w .held .small (peersLeft ms d at p) (w .less), m2);
-          },
-        ))
+        let m2 = rw (a, k) at m in (
+          rw (a, b, k) (sym (w .left)),
+          (
+            rw (a, k) (z .2),
+            record {
+              starts = omega (arith, z .0);
+              inside = omega (arith, z .1);
+              kept = n;
+              octets = m;
+              few = omega (arith, w .fewer, w .held .few, n2);
+              fits = omega (arith, w .held .small (peersLeft ms d at p) (w .less), m2);
+            },
+          ),
+        )
 
   -- ---- a RIB record's entries, of n peers
 
@@ -105,19 +107,21 @@ module _ {from to : ℕ} {ms d : List ℕ} {at : ℕ} {st : St} where
       by-entries k (Entries i) (a, b, c, g, o, m, some) =
           let z = by-lie in
           let o2 = rw (a, c, g, peers) at o in
-          let m2 = rw (a, c, g, peers) at m in
-          (rw (a, b, c, g, peers) (sym (w .left ∙ rw (k, some-stay (e .count) _ (rw o2 at some)))), (
-            rw (a, c, g) (z .2),
-            rw g (z .3),
-            record {
-              starts = omega (arith, z .0);
-              inside = omega (arith, z .1);
-              kept = o;
-              octets = m;
-              few = omega (arith, w .fewer, w .held .few, o2);
-              fits = omega (arith, w .held .small (entriesLeft news d at st e) (w .less), m2);
-            },
-          ))
+          let m2 = rw (a, c, g, peers) at m in (
+            rw (a, b, c, g, peers) (sym (w .left ∙ rw (k, some-stay (e .count) _ (rw o2 at some)))),
+            (
+              rw (a, c, g) (z .2),
+              rw g (z .3),
+              record {
+                starts = omega (arith, z .0);
+                inside = omega (arith, z .1);
+                kept = o;
+                octets = m;
+                few = omega (arith, w .fewer, w .held .few, o2);
+                fits = omega (arith, w .held .small (entriesLeft news d at st e) (w .less), m2);
+              },
+            ),
+          )
 
 -- ---- a good record x stands at `at`
 

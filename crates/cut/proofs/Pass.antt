@@ -166,5 +166,5 @@ module _ {from to : ℕ} {ms d news₀ news out₀ out : List ℕ} {at put : ℕ
           long = a ∙ i .long;
           step = c;
           laid = cut-turn mrt (cutting from to ms) d out₀ out out₁ (stateOf d f) (stateOf d g) at put q n (i .laid) (h .stands .before) room (en ∙ shown-here h .ends) b (eo ∙ ap (over out put) (is .0))
-          (eq ∙ ap (λ (z : List ℕ). put + length z) (is .0));
+              (eq ∙ ap (λ (z : List ℕ). put + length z) (is .0));
         }

@@ -19,13 +19,17 @@ fn answer(fault: u8, place: usize, octets: usize) {
     io::write_all(STDOUT_FILENO, b"\n");
 }
 
+fn wide(x: u8) -> u64 {
+    x as u64
+}
+
 // The first n octets, 32 to a line.
 fn octets(out: &[u8], n: usize)
     requires { ⌜ n ≤ length (now out) ⌝ }
 {
     let mut i = 0;
     while i < n {
-        io::print_hex(STDOUT_FILENO, out[i] as u64, 2);
+        io::print_hex(STDOUT_FILENO, wide(out[i]), 2);
         i += 1;
         if i % 32 == 0 {
             io::write_all(STDOUT_FILENO, b"\n");
@@ -60,7 +64,24 @@ fn list(s: &[u8], count: usize, mutes: &mut [u32])
     }
 }
 
-fn case(s: &[u8]) {
+// The answer, the octets written and the rest.
+fn report(r: Cutted, out: &[u8]) {
+    match r {
+        Cutted::Octets(n) => {
+            answer(0, 0, n);
+            if n <= out.len() {
+                octets(out, n);
+            }
+            rest(out, n);
+        }
+        Cutted::Refused(n, p) => {
+            answer(n, p, 0);
+            rest(out, 0);
+        }
+    }
+}
+
+fn case(s: &[u8], mutes: &mut [u32], out: &mut [u8]) {
     if s.len() < 22 {
         return;
     }
@@ -71,27 +92,24 @@ fn case(s: &[u8]) {
     if s.len() - 22 < 4 * count {
         return;
     }
-    if 65536 < room {
+    if mutes.len() < count {
         return;
     }
-    let mut mutes = [0u32; 65536];
-    list(s, count, &mut mutes);
-    let mut out = [165u8; 65536];
+    if out.len() < room {
+        return;
+    }
+    list(s, count, mutes);
+    let zero = 0;
     let from = 22 + 4 * count;
     let all = s.len();
-    match cut::cut(&s[from..all], start, end, &mutes[..count], &mut out[..room]) {
-        Cutted::Octets(n) => {
-            answer(0, 0, n);
-            if n <= 65536 {
-                octets(&out, n);
-            }
-            rest(&out, n);
-        }
-        Cutted::Refused(n, p) => {
-            answer(n, p, 0);
-            rest(&out, 0);
-        }
-    }
+    let r = cut::cut(
+        &s[from..all],
+        start,
+        end,
+        &mutes[zero..count],
+        &mut out[zero..room],
+    );
+    report(r, out);
 }
 
 fn one(i: usize) {
@@ -107,7 +125,9 @@ fn one(i: usize) {
     let mut file = [0u8; 131072];
     let got = io::read_full(fd, &mut file);
     libc::close(fd);
-    case(&file[..got]);
+    let mut mutes = [0u32; 65536];
+    let mut out = [165u8; 65536];
+    case(&file[..got], &mut mutes, &mut out);
 }
 
 fn main() {

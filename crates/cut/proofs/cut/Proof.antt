@@ -21,7 +21,7 @@ enum-known-n : tie.Need-enum-known-n
 enum-known-n c = search needs
 
 returns-2 : tie.Need-returns-2
-returns-2 c = 
+returns-2 c =
     let a = c .before .before .before .before .before .before .before .before .before .before .args in
     let m = rw (c .before .n .given .1) at (c .before .before .before .before .measure .ensures) in
     gives-fault 4096 (a .start) (a .end) (now (a .mutes)) (now (a .dump)) (now (a .out)) (c .before .before .before .before .before .before .if1 .left) _ _ (λ z. omega (arith, m .0)) (sym (m .1)) (sym (m .2))
@@ -30,7 +30,7 @@ enum-known-n-2 : tie.Need-enum-known-n-2
 enum-known-n-2 c = search needs
 
 returns-3 : tie.Need-returns-3
-returns-3 c = 
+returns-3 c =
     let a = c .before .before .before .before .before .before .before .before .before .before .before .args in
     let m = rw (c .before .before .n2 .given .1) at (c .before .before .before .before .before .measure .ensures) in
     gives-room 4096 (a .start) (a .end) (now (a .mutes)) (now (a .dump)) (now (a .out)) (c .before .before .before .before .before .before .before .if1 .left) (m .2) (omega (arith, m .1, c .if2 .taken))
@@ -39,7 +39,7 @@ slice-aggregate-write-cut : tie.Need-slice-aggregate-write-cut
 slice-aggregate-write-cut c = search needs
 
 write-cut-requires : tie.Need-write-cut-requires
-write-cut-requires c κs = 
+write-cut-requires c κs =
     let m = rw (c .before .before .before .before .n2 .given .1) at (c .before .before .before .before .before .before .before .measure .ensures) in
     (m .0, (search needs, omega (arith, m .1, c .before .before .if2 .left)))
 
@@ -47,7 +47,7 @@ same-length : tie.Need-same-length
 same-length c = search needs
 
 returns-4 : tie.Need-returns-4
-returns-4 c = 
+returns-4 c =
     let a = c .before .before .before .before .before .before .before .before .before .before .before .before .before .before .before .before .before .args in
     let m = rw (c .before .before .before .before .before .before .before .before .n2 .given .1) at (c .before .before .before .before .before .before .before .before .before .before .before .measure .ensures) in
     let g = gives-octets 4096 (a .start) (a .end) (now (a .mutes)) (now (a .dump)) (now (a .out)) (c .before .before .before .before .before .before .before .before .before .before .before .before .before .if1 .left) (m .2) (omega (arith, m .1, c .before .before .before .before .before .before .if2 .left)) in

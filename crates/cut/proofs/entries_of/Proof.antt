@@ -19,7 +19,7 @@ sub-t15 : tie.Need-sub-t15
 sub-t15 c = search needs
 
 returns-2 : tie.Need-returns-2
-returns-2 c = 
+returns-2 c =
     let m = c .before .measure-entries .ensures in
     (refl, refl, refl, refl, m .0, m .1, λ h. ⊎-elim (λ w. let k = w .1 .left in omega (arith, k)) (λ w. let k = w .left in absurd (omega (arith, k))) (c .if1 .came))
 

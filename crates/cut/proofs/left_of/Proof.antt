@@ -61,7 +61,7 @@ entries-of-requires : tie.Need-entries-of-requires
 entries-of-requires c κs = let h = here (c .before .before .before .before .before .before .before .before .before) in entries-lie h (rib-here h _ _ (c .before .before .before .before .x4 .given .1))
 
 returns : tie.Need-returns
-returns c = 
+returns c =
     let h = here (c .before .before .before .before .before .before .before .before .before .before) in
     let i = rw (c .before .before .before .time2 .ensures) at (sym (c .before .before .inside2 .ensures) ∙ c .before .if1 .taken) in
     left-entries h (rib-here h _ _ (c .before .before .before .before .before .x4 .given .1)) i (c .entries-of .result) (c .entries-of .ensures)
@@ -79,7 +79,7 @@ entries-of-requires-2 : tie.Need-entries-of-requires-2
 entries-of-requires-2 c κs = let h = here (c .before .before .before .before .before .before .before .before .before) in entries-lie h (generic-here h _ _ _ _ (c .before .before .before .before .x5 .given .1))
 
 returns-2 : tie.Need-returns-2
-returns-2 c = 
+returns-2 c =
     let h = here (c .before .before .before .before .before .before .before .before .before .before) in
     let i = rw (c .before .before .before .time3 .ensures) at (sym (c .before .before .inside3 .ensures) ∙ c .before .if2 .taken) in
     left-entries h (generic-here h _ _ _ _ (c .before .before .before .before .before .x5 .given .1)) i (c .entries-of2 .result) (c .entries-of2 .ensures)
@@ -109,7 +109,7 @@ returns-4 : tie.Need-returns-4
 returns-4 c = absurd (not-refused (here (c .before .before .before .before .before)) _ _ (c .enum-told2 .given .1))
 
 returns-5 : tie.Need-returns-5
-returns-5 c = 
+returns-5 c =
     let i = rw (c .before .before .time .ensures) at (c .before .inside .ensures) in
     left-unread (here (c .before .before .before .before .before .before .before .before .before)) (c .before .before .before .before .before .before .place .ensures) (c .whole-if .ensures) _ _ (c .before .before .before .before .x .given .1) i
 
@@ -120,13 +120,13 @@ returns-7 : tie.Need-returns-7
 returns-7 c = left-peers (here (c .before .before .before .before .before .before .before)) _ _ (c .before .before .x3 .given .1) (c .peers-of .result) (c .peers-of .ensures)
 
 returns-8 : tie.Need-returns-8
-returns-8 c = 
+returns-8 c =
     let h = here (c .before .before .before .before .before .before .before .before .before) in
     let i = rw (c .before .before .time2 .ensures) at (sym (c .before .inside2 .ensures) ∙ c .if1 .left) in
     left-outside h (rib-here h _ _ (c .before .before .before .before .x4 .given .1)) i
 
 returns-9 : tie.Need-returns-9
-returns-9 c = 
+returns-9 c =
     let h = here (c .before .before .before .before .before .before .before .before .before) in
     let i = rw (c .before .before .time3 .ensures) at (sym (c .before .inside3 .ensures) ∙ c .if2 .left) in
     left-outside h (generic-here h _ _ _ _ (c .before .before .before .before .x5 .given .1)) i

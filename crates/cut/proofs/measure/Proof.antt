@@ -45,7 +45,7 @@ same-length : tie.Need-same-length Inv-loop μ-loop
 same-length c = c .before .before .before .before .before .before .loop .inv .long
 
 returns : tie.Need-returns Inv-loop μ-loop
-returns c = 
+returns c =
     let l = c .before .before .before .before .before .before .loop in
     first-fault (octets (c .before .before .before .before .before .before .before .before .before)) (l .inv) (c .before .before .before .before .before .loop-test .taken) _ _ (c .before .before .before .told .ensures) (c .before .before .read-record .ensures) _ (c .before .fault .ensures) (c .if1 .taken)
 
@@ -65,7 +65,7 @@ size-of-requires : tie.Need-size-of-requires Inv-loop μ-loop
 size-of-requires c κs = small-of _ _ _ _ (c .left-of .result) (c .left-of .ensures .1)
 
 add-total : tie.Need-add-total Inv-loop μ-loop
-add-total c = 
+add-total c =
     let l = c .before .before .before .before .before .before .before .before .before .loop in
     let b = first-total (octets (c .before .before .before .before .before .before .before .before .before .before .before .before)) (l .inv) (here (c .before .before .before)) (c .before .left-of .result) (c .before .left-of .ensures) in
     search needs
@@ -83,7 +83,7 @@ loop-less : tie.Need-loop-less Inv-loop μ-loop
 loop-less c = let g = goes-on (here (c .before .before .before .before .before .before .before .before)) in search needs
 
 loop-again : tie.Need-loop-again Inv-loop μ-loop
-loop-again c = 
+loop-again c =
     let l = c .before .before .before .before .before .before .before .before .before .before .before .before .before .before .loop in
     let t = c .before .before .before .table-behind .ensures in
     first-turn (octets (c .before .before .before .before .before .before .before .before .before .before .before .before .before .before .before .before .before)) (l .inv) (here (c .before .before .before .before .before .before .before .before)) (c .before .before .before .before .before .before .left-of .result) (c .before .before .before .before .before .before .left-of .ensures) _ _ _ _ (search needs) (t .0) (t .1) (c .place .ensures) (c .before .before .before .before .before .size-of .ensures)

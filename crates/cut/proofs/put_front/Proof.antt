@@ -48,7 +48,7 @@ returns c =
     let a = q .args in (
       omega arith,
       laid-front (now (a .d)) (a .at) (a .i) (q .pre .0) (now (a .out)) _ _ _ _ (a .put) (q .pre .1) (c .before .before .before .before .before .before .before .before .before .before .before .before .before .before .copy .ensures) (c .before .before .before .before .before .before .before .before .before .before .put-number .ensures)
-      (c .before .before .before .before .before .before .copy2 .ensures) (c .before .before .put-number2 .ensures),
+          (c .before .before .before .before .before .before .copy2 .ensures) (c .before .before .put-number2 .ensures),
     )
 
 pub put-front-spec : {M : Type 1} → statement M

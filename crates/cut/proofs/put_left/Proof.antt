@@ -17,7 +17,7 @@ enum-known-l : tie.Need-enum-known-l
 enum-known-l c = search needs
 
 copy-requires : tie.Need-copy-requires
-copy-requires c κs = 
+copy-requires c κs =
     let q = c .before .before .before .before .before .before .before .before in
     let a = q .args in
     let h = rw (c .before .before .l .given .1) at (q .pre .0) in
@@ -31,7 +31,7 @@ enum-known-l-2 : tie.Need-enum-known-l-2
 enum-known-l-2 c = search needs
 
 put-front-requires : tie.Need-put-front-requires
-put-front-requires c κs = 
+put-front-requires c κs =
     let q = c .before .before .before .before .before .before .before .before in
     let a = q .args in
     let i = c .before .before .l2 .given .0 .0 in
@@ -41,7 +41,7 @@ put-front-requires c κs =
     (front-fits (now (a .d)) (a .at) i _ t, front-room (now (a .d)) (a .at) i _ t (now (a .out)) (a .put) k, t .fits)
 
 write-peers-requires : tie.Need-write-peers-requires
-write-peers-requires c κs = 
+write-peers-requires c κs =
     let q = c .before .before .before .before .before .before .before .before .before .before .before .before in
     let a = q .args in
     let i = c .before .before .before .before .before .before .l2 .given .0 .0 in
@@ -54,7 +54,7 @@ enum-known-l-3 : tie.Need-enum-known-l-3
 enum-known-l-3 c = search needs
 
 put-front-requires-2 : tie.Need-put-front-requires-2
-put-front-requires-2 c κs = 
+put-front-requires-2 c κs =
     let q = c .before .before .before .before .before .before .before .before in
     let a = q .args in
     let i = c .before .before .l3 .given .0 .0 in
@@ -64,7 +64,7 @@ put-front-requires-2 c κs =
     (front-fits (now (a .d)) (a .at) i _ t, front-room (now (a .d)) (a .at) i _ t (now (a .out)) (a .put) k, t .fits)
 
 write-entries-requires : tie.Need-write-entries-requires
-write-entries-requires c κs = 
+write-entries-requires c κs =
     let q = c .before .before .before .before .before .before .before .before .before .before .before .before in
     let a = q .args in
     let i = c .before .before .before .before .before .before .l3 .given .0 .0 in
@@ -74,7 +74,7 @@ write-entries-requires c κs =
     (h .0, (h .1, search needs))
 
 returns : tie.Need-returns
-returns c = 
+returns c =
     let q = c .before .before .before .before .before .before in
     let a = q .args in
     let k = rw (c .enum-told .given .1) at (q .pre .1) in
@@ -84,7 +84,7 @@ same-length : tie.Need-same-length
 same-length c = search needs
 
 returns-2 : tie.Need-returns-2
-returns-2 c = 
+returns-2 c =
     let q = c .before .before .before .before .before .before .before .before .before .before .before in
     let a = q .args in
     let h = rw (c .before .before .before .before .before .l .given .1) at (q .pre .0) in
@@ -94,7 +94,7 @@ same-length-2 : tie.Need-same-length-2
 same-length-2 c = search needs
 
 returns-3 : tie.Need-returns-3
-returns-3 c = 
+returns-3 c =
     let q = c .before .before .before .before .before .before .before .before .before .before .before .before .before .before .before in
     let a = q .args in
     let i = c .before .before .before .before .before .before .before .before .before .l2 .given .0 .0 in
@@ -108,7 +108,7 @@ same-length-3 : tie.Need-same-length-3
 same-length-3 c = search needs
 
 returns-4 : tie.Need-returns-4
-returns-4 c = 
+returns-4 c =
     let q = c .before .before .before .before .before .before .before .before .before .before .before .before .before .before .before in
     let a = q .args in
     let i = c .before .before .before .before .before .before .before .before .before .l3 .given .0 .0 in

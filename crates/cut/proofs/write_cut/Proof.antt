@@ -49,7 +49,7 @@ left-of-requires : tie.Need-left-of-requires Inv-loop μ-loop
 left-of-requires c κs = here (c .before) .stands
 
 put-left-requires : tie.Need-put-left-requires Inv-loop μ-loop
-put-left-requires c κs = 
+put-left-requires c κs =
     let l = c .before .before .before .before .before .before .before .before .loop in
     let e = c .before .before .left-of .ensures in
     (e .1, second-room (l .inv) (c .before .before .before .before .before .before .before .before .before .before .before .before .before .pre .1 .1) (here (c .before .before .before .before)) (c .before .before .left-of .result) e)
@@ -71,7 +71,7 @@ loop-less : tie.Need-loop-less Inv-loop μ-loop
 loop-less c = let g = goes-on (here (c .before .before .before .before .before .before .before .before .before .before .before .before)) in search needs
 
 loop-again : tie.Need-loop-again Inv-loop μ-loop
-loop-again c = 
+loop-again c =
     let l = c .before .before .before .before .before .before .before .before .before .before .before .before .before .before .before .before .loop in
     let t = c .before .before .before .table-behind .ensures in
     let p = c .before .before .before .before .before .before .before .put-left .ensures in
