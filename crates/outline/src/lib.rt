@@ -1,11 +1,11 @@
 // What a cut must know of a record, out of one that is known to be good: no check is made twice. m is the record from its header to
-// its last octet.
+// its last octet, d a dump.
 ghost use mathlib.Core.Path.{_≡_};
-ghost use Prim.Native.Nat.{_+_, _/_, _≤_};
-ghost use lib.ListN.{length};
+ghost use Prim.Native.Nat.{_+_, _/_, _≤_, _<_};
+ghost use lib.ListN.{length, drop};
 ghost use Rattle.num.specs.Be.{numAt};
-ghost use Rattle.reading.specs.Answer.{fault};
-ghost use Rattle.reading.specs.One.{wholeRecord};
+ghost use Rattle.reading.specs.Answer.{fault, place};
+ghost use Rattle.reading.specs.One.{wholeRecord, readOne};
 ghost use Rattle.outline.specs.Outlines.{outlineOf, timeIn};
 ghost use Rattle.outline.specs.declared.Outline.the-variants as outlined;
 use kind::kind_of;
@@ -64,7 +64,7 @@ fn entries_in(m: &[u8], at: usize) -> Outline
     Outline::Rib(time_in(m, 0), next + 2, number(m, next, 2))
 }
 
-pub fn outline_of(m: &[u8], t: Table) -> Outline
+fn outline_of(m: &[u8], t: Table) -> Outline
     requires { ⌜ 12 ≤ length (now m) ⌝ }
     requires { ⌜ fault (wholeRecord 4096 t (now m)) ≡ 0 ⌝ }
     ensures { λ r. ⌜ r ≡ outlineOf (wholeRecord 4096 t (now (m .entry))) ⌝ }
@@ -79,4 +79,23 @@ pub fn outline_of(m: &[u8], t: Table) -> Outline
         Kind::Change(micro, width) => peer_in(m, micro, 12 + micro, width),
         Kind::Message(micro, width) => peer_in(m, micro, 12 + micro, width),
     }
+}
+
+// Where the record ends that starts at `at` of d.
+pub fn end_at(d: &[u8], at: usize, t: Table) -> usize
+    requires { ⌜ at < length (now d) ⌝ }
+    requires { ⌜ fault (readOne 4096 t (drop at (now d))) ≡ 0 ⌝ }
+    ensures { λ r. ⌜ (r ≡ at + place (readOne 4096 t (drop at (now (d .entry))))) × (r ≤ length (now (d .entry))) ⌝ }
+{
+    at + 12 + number(d, at + 8, 4) as usize
+}
+
+// Its outline.
+pub fn outline_at(d: &[u8], at: usize, t: Table) -> Outline
+    requires { ⌜ at < length (now d) ⌝ }
+    requires { ⌜ fault (readOne 4096 t (drop at (now d))) ≡ 0 ⌝ }
+    ensures { λ r. ⌜ r ≡ outlineOf (readOne 4096 t (drop at (now (d .entry)))) ⌝ }
+{
+    let end = end_at(d, at, t);
+    outline_of(&d[at..end], t)
 }
