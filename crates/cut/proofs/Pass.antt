@@ -1,11 +1,12 @@
 -- The two passes over a dump: what holds before each record, and one record further. Assumes nothing.
 use mathlib.Core.Path.{_≡_, refl, sym, ap, _∙_}
-use mathlib.Core.Bool.{false}
+use mathlib.Core.Bool.{Bool, true, false}
 use mathlib.Core.List.{List}
-use Prim.Native.Nat.{ℕ, _+_, _-_, _≤_, _<_}
+use Prim.Native.Nat.{ℕ, zero, suc, _+_, _≤_, _<_}
 use native.Mathlib.Omega.{arith}
-use lib.ListN.{length, take, drop, length-drop}
-use lib.Seq.{take-all}
+use lib.Dec.{ltb}
+use lib.ListN.{length, drop}
+use borrow.Author.Tests.{ltb-true, ltb-false}
 use Rattle.form.specs.Octets.{Octets}
 use Rattle.form.specs.Record.{next}
 use Rattle.form.specs.Dump.{writes, Splits}
@@ -14,23 +15,30 @@ use Rattle.shown.specs.declared.Shown.{Shown}
 use Rattle.shown.specs.declared.Shown.the-variants.{Nothing, Refused, Unread, TableDump, PeerTable, Rib, RibGeneric, Change, Message}
 use Rattle.reading.specs.Answer.{fault, place}
 use Rattle.reading.specs.One.{readOne}
+use Rattle.outline.specs.Outlines.{outlineOf}
+use Rattle.outline.specs.declared.Outline.{Outline}
 use Rattle.walking.specs.Walked.{walked}
+use Rattle.walking.specs.Steps.{stepOf, stepAt}
+use Rattle.walking.specs.declared.Item.{Item}
+use Rattle.walking.specs.declared.Step.{Step}
+use Rattle.walking.specs.declared.Step.the-variants as step
+use Rattle.walk.proofs.Laws.{past-end}
 use Rattle.cutting.specs.Cut.{cutting}
 use Rattle.copy.specs.Over.{over}
 use Rattle.moving.specs.One.{told, Ranked, Reads, cutOne}
 use Rattle.cut_laws.specs.Answer.{leftOf}
-use Rattle.cut_laws.proofs.Shows.{shows-good}
+use Rattle.cut_laws.proofs.Shows.{shows-good, shows-some}
 use Rattle.cut_laws.proofs.Checked.{Measuring, check-starts, check-total, check-turn}
 use Rattle.cut_laws.proofs.Loop.{Cutting, front, cut-starts, cut-room, cut-turn, cut-done}
 use Rattle.cut_laws.proofs.Answers.{pass-done, pass-fault}
-use Rattle.cut.specs.State.{mrt, stateOf, tableOf, recAt}
+use Rattle.cut.specs.State.{mrt, stateOf, tableOf, shownAt, recAt}
 use Rattle.cut.specs.Left.{leftOctets, Sound, peersLeft, entriesLeft, Small, sizeOf}
 use Rattle.cut.specs.Stands.{InStep, Stands}
 use Rattle.cut.specs.declared.InForce.{InForce}
 use Rattle.cut.specs.declared.Left.{Left}
 use Rattle.cut.specs.declared.Left.the-variants.{Gone, Whole, Peers, Entries}
 use Rattle.cut.proofs.Laws.{length-part, length-items}
-use Rattle.cut.proofs.One.{Here, Is, shown-here}
+use Rattle.cut.proofs.One.{Here, Is, shown-here, not-refused}
 
 -- ---- the size of what is left
 
@@ -55,23 +63,69 @@ starts : (ms news d : List ℕ) → InStep ms news d none
 unfolding told Ranked
 starts ms news d = record { tells = tt; ranked = tt }
 
--- ---- reading the record at `at`, which the code lends as a part of the dump
+-- ---- a step at `at`
 
-read-there : (d : List ℕ) (at : ℕ) (f : InForce) (t : Table) (x : Shown) → t ≡ tableOf f → x ≡ readOne 4096 t (take (length d - at) (drop at d)) → x ≡ readOne 4096 (tableOf f) (drop at d)
-read-there d at f t x e r =
-    let l : take (length d - at) (drop at d) ≡ drop at d = take-all (length d - at) (drop at d) (rw length-drop (omega arith)) in
-    rw (l, e) at r
+abbrev stepTag : Step → ℕ
+stepTag step.End = 0
+stepTag (step.Fault n p) = 1
+stepTag (step.Record i t) = 2
 
-refused-with : (x : Shown) → 0 < fault x → (p : ℕ) × (x ≡ Refused (fault x) p)
-refused-with Nothing h = absurd (omega arith)
-refused-with (Refused n p) h = (p, refl)
-refused-with (Unread a b) h = absurd (omega arith)
-refused-with (TableDump a b) h = absurd (omega arith)
-refused-with (PeerTable a b) h = absurd (omega arith)
-refused-with (Rib a b) h = absurd (omega arith)
-refused-with (RibGeneric a b c e) h = absurd (omega arith)
-refused-with (Change a b c e) h = absurd (omega arith)
-refused-with (Message a b c e) h = absurd (omega arith)
+abbrev nextOf : Step → ℕ
+nextOf step.End = 0
+nextOf (step.Fault n p) = 0
+nextOf (step.Record i t) = i .next
+
+abbrev numberOf : Step → ℕ
+numberOf step.End = 0
+numberOf (step.Fault n p) = n
+numberOf (step.Record i t) = 0
+
+abbrev placeOf : Step → ℕ
+placeOf step.End = 0
+placeOf (step.Fault n p) = p
+placeOf (step.Record i t) = 0
+
+module _ (t : Table) (at : ℕ) where
+  over-record : (i : Item) (u : Table) (x : Shown) → stepOf t at x ≡ step.Record i u → (fault x ≡ 0) × (i .next ≡ at + place x)
+  over-record i u Nothing e = absurd (omega (arith, ap stepTag e))
+  over-record i u (Refused n p) e = absurd (omega (arith, ap stepTag e))
+  over-record i u (Unread a b) e = (refl, sym (ap nextOf e))
+  over-record i u (TableDump a b) e = (refl, sym (ap nextOf e))
+  over-record i u (PeerTable a b) e = (refl, sym (ap nextOf e))
+  over-record i u (Rib a b) e = (refl, sym (ap nextOf e))
+  over-record i u (RibGeneric a b c g) e = (refl, sym (ap nextOf e))
+  over-record i u (Change a b c g) e = (refl, sym (ap nextOf e))
+  over-record i u (Message a b c g) e = (refl, sym (ap nextOf e))
+
+  at-fault : (n p : ℕ) (x : Shown) → stepOf t at x ≡ step.Fault n p → (q : ℕ) × (x ≡ Refused n q) × (p ≡ at)
+  at-fault n p Nothing e = absurd (omega (arith, ap stepTag e))
+  at-fault n p (Refused m q) e = (q, ap (λ (k : ℕ). Refused k q) (ap numberOf e), sym (ap placeOf e))
+  at-fault n p (Unread a b) e = absurd (omega (arith, ap stepTag e))
+  at-fault n p (TableDump a b) e = absurd (omega (arith, ap stepTag e))
+  at-fault n p (PeerTable a b) e = absurd (omega (arith, ap stepTag e))
+  at-fault n p (Rib a b) e = absurd (omega (arith, ap stepTag e))
+  at-fault n p (RibGeneric a b c g) e = absurd (omega (arith, ap stepTag e))
+  at-fault n p (Change a b c g) e = absurd (omega (arith, ap stepTag e))
+  at-fault n p (Message a b c g) e = absurd (omega (arith, ap stepTag e))
+
+  at-end : (x : Shown) → stepOf t at x ≡ step.End → x ≡ Nothing
+  at-end Nothing e = refl
+  at-end (Refused n p) e = absurd (omega (arith, ap stepTag e))
+  at-end (Unread a b) e = absurd (omega (arith, ap stepTag e))
+  at-end (TableDump a b) e = absurd (omega (arith, ap stepTag e))
+  at-end (PeerTable a b) e = absurd (omega (arith, ap stepTag e))
+  at-end (Rib a b) e = absurd (omega (arith, ap stepTag e))
+  at-end (RibGeneric a b c g) e = absurd (omega (arith, ap stepTag e))
+  at-end (Change a b c g) e = absurd (omega (arith, ap stepTag e))
+  at-end (Message a b c g) e = absurd (omega (arith, ap stepTag e))
+
+  -- a step that finds something stands before the dump's end
+  before-end : (d : List ℕ) → (stepTag (stepAt 4096 t d at) ≡ 0 → ⊥) → at < length d
+  before-end d h = go (ltb at (length d)) refl
+    where
+      go : (b : Bool) → ltb at (length d) ≡ b → at < length d
+      go true e = ltb-true at (length d) e
+      go false e = absurd (h (sym (ap stepTag (past-end 4096 t d at (ltb-false at (length d) e)))))
 
 good-with : (x : Shown) → ((n p : ℕ) → x ≡ Refused n p → ⊥) → fault x ≡ 0
 good-with Nothing h = refl
@@ -85,8 +139,19 @@ good-with (Change a b c e) h = refl
 good-with (Message a b c e) h = refl
 
 -- it ends in the dump, and the pass goes on behind it
-pub goes-on : {from to : ℕ} {ms news d : List ℕ} {at : ℕ} {f : InForce} {x : Shown} → Here from to ms news d at f x → (0 < place x) × (at + place x ≤ length d)
+pub goes-on : {from to : ℕ} {ms news d : List ℕ} {at : ℕ} {f : InForce} → Here from to ms news d at f → (0 < place (shownAt d f at)) × (at + place (shownAt d f at) ≤ length d)
 goes-on h = (omega (arith, shown-here h .ends), shown-here h .inside)
+
+-- as code tells the table in force, and reads the outline
+module _ {from to : ℕ} {ms news d : List ℕ} {at : ℕ} {f : InForce} (h : Here from to ms news d at f) (t : Table) (e : t ≡ tableOf f) where
+  pub good-told : fault (readOne 4096 t (drop at d)) ≡ 0
+  good-told = rw e (h .good)
+
+  pub end-told : (n : ℕ) → n ≡ at + place (readOne 4096 t (drop at d)) → n ≡ at + place (shownAt d f at)
+  end-told n g = rw e at g
+
+  pub stands-told : (o : Outline) → o ≡ outlineOf (readOne 4096 t (drop at d)) → Stands ms news d at f o
+  stands-told o g = record { before = h .before; good = h .good; outlined = rw e at g; step = h .step }
 
 -- ---- the first pass
 
@@ -103,32 +168,57 @@ module _ {from to : ℕ} {ms d news₀ news : List ℕ} {at total : ℕ} {f : In
   pub first-done : length d ≤ at → Splits mrt d × (total ≡ length (leftOf 4096 from to ms d)) × (walked 4096 d .fault ≡ 0)
   first-done h = let e = pass-done 4096 from to ms d oc (stateOf d f) at total (i .measured) h in (e .1, e .0, e .2)
 
-  module _ (more : at < length d) (t : Table) (x : Shown) (e : t ≡ tableOf f) (r : x ≡ readOne 4096 t (take (length d - at) (drop at d))) where
-    pub first-fault : (n : ℕ) → n ≡ fault x → 0 < n → (0 < n) × (n ≡ walked 4096 d .fault) × (at ≡ walked 4096 d .place)
-    first-fault n k h =
-        let q = refused-with x (omega arith) in
-        let w = pass-fault 4096 from to ms d oc (stateOf d f) at total (i .measured) more (tableOf f) (i .step .tells) (fault x) (q .0) (sym (read-there d at f t x e r) ∙ q .1) in
-        (h, k ∙ sym (w .1), sym (w .2))
+  -- o is the step that the code has taken
+  module _ (t : Table) (o : Step) (e : t ≡ tableOf f) (r : o ≡ stepAt 4096 t d at) where
+    taken : o ≡ stepOf (tableOf f) at (shownAt d f at)
+    unfolding stepAt
+    taken = rw e at r
 
-    pub first-here : (n : ℕ) → n ≡ fault x → n ≤ 0 → Here from to ms news d at f x
-    first-here n k h = record { octets = oc; stands = record { before = more; shown = read-there d at f t x e r; good = omega arith; step = i .step } }
+    some : (stepTag o ≡ 0 → ⊥) → at < length d
+    some h = before-end t at d (λ z. h (ap stepTag r ∙ z))
 
-  module _ {x : Shown} (h : Here from to ms news d at f x) (l : Left) (is : Is h l) where
+    pub first-end : o ≡ step.End → Splits mrt d × (total ≡ length (leftOf 4096 from to ms d)) × (walked 4096 d .fault ≡ 0)
+    first-end g = first-done (go (ltb at (length d)) refl)
+      where
+        go : (b : Bool) → ltb at (length d) ≡ b → length d ≤ at
+        go true z = absurd (shows-some 4096 d oc at (ltb-true at (length d) z) (tableOf f) (stateOf d f) (i .step .tells) (at-end (tableOf f) at (shownAt d f at) (sym taken ∙ g)))
+        go false z = ltb-false at (length d) z
+
+    pub first-fault : (n p : ℕ) → o ≡ step.Fault n p → (0 < n) × (n ≡ walked 4096 d .fault) × (p ≡ walked 4096 d .place)
+    first-fault n p g =
+        let more : at < length d = some (λ z. omega (arith, ap stepTag g)) in
+        let q = at-fault (tableOf f) at n p (shownAt d f at) (sym taken ∙ g) in
+        let w = pass-fault 4096 from to ms d oc (stateOf d f) at total (i .measured) more (tableOf f) (i .step .tells) n (q .0) (q .1) in
+        (positive n more (q .0) (q .1), sym (w .1), q .2 ∙ sym (w .2))
+      where
+        positive : (k : ℕ) → at < length d → (a : ℕ) → shownAt d f at ≡ Refused k a → 0 < k
+        positive zero more a z =
+            let h : Here from to ms news d at f = record { octets = oc; before = more; good = ap fault z; step = i .step } in
+            absurd (not-refused h zero a z)
+        positive (suc k) more a z = omega arith
+
+    pub first-here : (item : Item) (u : Table) → o ≡ step.Record item u → Here from to ms news d at f × (item .next ≡ at + place (shownAt d f at))
+    first-here item u g =
+        let q = over-record (tableOf f) at item u (shownAt d f at) (sym taken ∙ g) in
+        (record { octets = oc; before = some (λ z. omega (arith, ap stepTag g)); good = q .0; step = i .step }, q .1)
+
+  module _ (h : Here from to ms news d at f) (l : Left) (is : Is h l) where
     size-left : sizeOf l ≡ length (writes (cutOne mrt (cutting from to ms) (stateOf d f) (recAt d f at)))
     size-left = size-is ms news d at l (is .1) ∙ ap length (is .0)
 
     pub first-total : total + sizeOf l ≤ length d
     first-total =
-        let b = check-total mrt (cutting from to ms) d oc (stateOf d f) at total (i .measured) (h .stands .before) (shown-here h .reads) in
+        let b = check-total mrt (cutting from to ms) d oc (stateOf d f) at total (i .measured) (h .before) (shown-here h .reads) in
         omega (arith, b, size-left)
 
-    pub first-turn : (g : InForce) (more : List ℕ) (n k : ℕ) → length more ≡ length news → stateOf d g ≡ next mrt (recAt d f at) (stateOf d f) → InStep ms more d g → n ≡ place x → k ≡ sizeOf l
-        → First from to ms d news₀ more (at + n) (total + k) g
+    pub first-turn : (g : InForce) (more : List ℕ) (n k : ℕ) → length more ≡ length news → stateOf d g ≡ next mrt (recAt d f at) (stateOf d f) → InStep ms more d g
+        → n ≡ at + place (shownAt d f at) → k ≡ sizeOf l → First from to ms d news₀ more n (total + k) g
     first-turn g more n k a b c en ek =
+        rw en
         record {
           long = a ∙ i .long;
           step = c;
-          measured = check-turn mrt (cutting from to ms) d oc (stateOf d f) at total (i .measured) (h .stands .before) (stateOf d g) n k (shown-here h .reads) (en ∙ shown-here h .ends) (ek ∙ size-left) b;
+          measured = check-turn mrt (cutting from to ms) d oc (stateOf d f) at total (i .measured) (h .before) (stateOf d g) (place (shownAt d f at)) k (shown-here h .reads) (shown-here h .ends) (ek ∙ size-left) b;
         }
 
 -- ---- the second pass
@@ -146,25 +236,25 @@ module _ {from to : ℕ} {ms d news₀ news out₀ out : List ℕ} {at put : ℕ
   pub second-done : length d ≤ at → out ≡ over out₀ 0 (leftOf 4096 from to ms d)
   second-done h = cut-done mrt (cutting from to ms) d out₀ out (stateOf d f) at put (i .laid) h room .1
 
-  pub second-here : Octets d → at < length d → (t : Table) (x : Shown) → t ≡ tableOf f → x ≡ readOne 4096 t (take (length d - at) (drop at d)) → Here from to ms news d at f x
-  second-here oc more t x e r =
-      let q = read-there d at f t x e r in
+  pub second-here : Octets d → at < length d → Here from to ms news d at f
+  second-here oc more =
       let w = front mrt (cutting from to ms) d (stateOf d f) at (i .laid .rs) (i .laid .here) more in
-      let g = good-with x (λ n p z. shows-good 4096 d oc at more (tableOf f) (stateOf d f) (i .step .tells) (w .reads) n p (sym q ∙ z)) in
-      record { octets = oc; stands = record { before = more; shown = q; good = g; step = i .step } }
+      let g = good-with (shownAt d f at) (λ n p z. shows-good 4096 d oc at more (tableOf f) (stateOf d f) (i .step .tells) (w .reads) n p z) in
+      record { octets = oc; before = more; good = g; step = i .step }
 
-  module _ {x : Shown} (h : Here from to ms news d at f x) (l : Left) (is : Is h l) where
+  module _ (h : Here from to ms news d at f) (l : Left) (is : Is h l) where
     pub second-room : put + length (leftOctets ms news d at l) ≤ length out
     second-room =
-        let b = cut-room mrt (cutting from to ms) d out₀ out (stateOf d f) at put (i .laid) (h .stands .before) room in
+        let b = cut-room mrt (cutting from to ms) d out₀ out (stateOf d f) at put (i .laid) (h .before) room in
         omega (arith, b, ap length (is .0))
 
-    pub second-turn : (g : InForce) (more out₁ : List ℕ) (n q : ℕ) → length more ≡ length news → stateOf d g ≡ next mrt (recAt d f at) (stateOf d f) → InStep ms more d g → n ≡ place x
-        → q ≡ put + length (leftOctets ms news d at l) → out₁ ≡ over out put (leftOctets ms news d at l) → Second from to ms d news₀ more out₀ out₁ (at + n) q g
+    pub second-turn : (g : InForce) (more out₁ : List ℕ) (n q : ℕ) → length more ≡ length news → stateOf d g ≡ next mrt (recAt d f at) (stateOf d f) → InStep ms more d g → n ≡ at + place (shownAt d f at)
+        → q ≡ put + length (leftOctets ms news d at l) → out₁ ≡ over out put (leftOctets ms news d at l) → Second from to ms d news₀ more out₀ out₁ n q g
     second-turn g more out₁ n q a b c en eq eo =
+        rw en
         record {
           long = a ∙ i .long;
           step = c;
-          laid = cut-turn mrt (cutting from to ms) d out₀ out out₁ (stateOf d f) (stateOf d g) at put q n (i .laid) (h .stands .before) room (en ∙ shown-here h .ends) b (eo ∙ ap (over out put) (is .0))
+          laid = cut-turn mrt (cutting from to ms) d out₀ out out₁ (stateOf d f) (stateOf d g) at put q (place (shownAt d f at)) (i .laid) (h .before) room (shown-here h .ends) b (eo ∙ ap (over out put) (is .0))
               (eq ∙ ap (λ (z : List ℕ). put + length z) (is .0));
         }

@@ -13,8 +13,6 @@ use Rattle.cutting.specs.Cut.{mem}
 use Rattle.moving.specs.Found.{Lie, items}
 use Rattle.moving.specs.Moved.{moved}
 use Rattle.moving.specs.One.{itemsLeft}
-use Rattle.shown.specs.declared.Peers as shown
-use Rattle.shown.specs.declared.Routes.{Routes}
 use Rattle.cut.specs.declared.Items.{Items}
 use Rattle.cut.specs.declared.Left.{Left}
 use Rattle.cut.specs.declared.Left.the-variants.{Gone, Whole, Peers, Entries}
@@ -64,19 +62,19 @@ Small (Entries i) = i .front + 2 + i .octets < 256 ^ 4
 unfoldable pub frontLeft : (d : List ℕ) (at : ℕ) → Items → List ℕ
 frontLeft d at i = take 8 (drop at d) ++ (toBe 4 (i .front + 2 + i .octets) ++ (take (i .front) (drop (at + 12) d) ++ toBe 2 (i .kept)))
 
--- what measuring a table's peers, and a RIB record's entries, finds
-abbrev pub PeersOf : (ms d : List ℕ) (at : ℕ) → shown.Peers → Left → Type 0
-PeersOf ms d at p Gone = ⊥
-PeersOf ms d at p (Whole size) = ⊥
-PeersOf ms d at p (Entries i) = ⊥
-PeersOf ms d at p (Peers i) =
-    (i .from ≡ at + p .peers .at) × (i .front ≡ p .peers .at - 14) × (i .count ≡ p .count) × (i .kept ≡ length (peersLeft ms d i)) × (i .octets ≡ length (joins (peersLeft ms d i)))
+-- what measuring a table's peers, and a RIB record's entries, finds: so many items, off octets behind the record's start
+abbrev pub PeersOf : (ms d : List ℕ) (at off count : ℕ) → Left → Type 0
+PeersOf ms d at off n Gone = ⊥
+PeersOf ms d at off n (Whole size) = ⊥
+PeersOf ms d at off n (Entries i) = ⊥
+PeersOf ms d at off n (Peers i) =
+    (i .from ≡ at + off) × (i .front ≡ off - 14) × (i .count ≡ n) × (i .kept ≡ length (peersLeft ms d i)) × (i .octets ≡ length (joins (peersLeft ms d i)))
 
 -- the entries of so many that stay; a record that had some and lost them all goes
-abbrev pub EntriesOf : (news d : List ℕ) (at : ℕ) → Routes → (peers : ℕ) → Left → Type 0
-EntriesOf news d at e peers (Whole size) = ⊥
-EntriesOf news d at e peers (Peers i) = ⊥
-EntriesOf news d at e peers Gone = (0 < e .count) × (length (moved news (items (entry peers) (e .count) (drop (at + e .entries .at) d))) ≡ 0)
-EntriesOf news d at e peers (Entries i) =
-    (i .from ≡ at + e .entries .at) × (i .front ≡ e .entries .at - 14) × (i .count ≡ e .count) × (i .peers ≡ peers)
-    × (i .kept ≡ length (entriesLeft news d i)) × (i .octets ≡ length (joins (entriesLeft news d i))) × (0 < e .count → 0 < i .kept)
+abbrev pub EntriesOf : (news d : List ℕ) (at off count peers : ℕ) → Left → Type 0
+EntriesOf news d at off n peers (Whole size) = ⊥
+EntriesOf news d at off n peers (Peers i) = ⊥
+EntriesOf news d at off n peers Gone = (0 < n) × (length (moved news (items (entry peers) n (drop (at + off) d))) ≡ 0)
+EntriesOf news d at off n peers (Entries i) =
+    (i .from ≡ at + off) × (i .front ≡ off - 14) × (i .count ≡ n) × (i .peers ≡ peers)
+    × (i .kept ≡ length (entriesLeft news d i)) × (i .octets ≡ length (joins (entriesLeft news d i))) × (0 < n → 0 < i .kept)

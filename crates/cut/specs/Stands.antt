@@ -2,18 +2,17 @@
 use mathlib.Core.Path.{_≡_}
 use mathlib.Core.List.{List}
 use Prim.Native.Nat.{ℕ, _<_}
-use lib.ListN.{length, drop}
+use lib.ListN.{length}
 use Rattle.form.specs.Dump.{Splits}
-use Rattle.form.specs.Record.{next}
-use Rattle.shown.specs.declared.Shown.{Shown}
-use Rattle.reading.specs.One.{readOne}
 use Rattle.reading.specs.Answer.{fault}
 use Rattle.round_trip.specs.Tells.{Tells}
 use Rattle.walking.specs.Walked.{walked}
 use Rattle.cutting.specs.Cut.{mem}
 use Rattle.moving.specs.One.{Ranked}
 use Rattle.cut_laws.specs.Answer.{leftOf}
-use Rattle.cut.specs.State.{mrt, stateOf, tableOf, recAt}
+use Rattle.outline.specs.Outlines.{outlineOf}
+use Rattle.outline.specs.declared.Outline.{Outline}
+use Rattle.cut.specs.State.{mrt, stateOf, tableOf, shownAt}
 use Rattle.cut.specs.declared.InForce.{InForce}
 use Rattle.cut.specs.declared.Measured.{Measured}
 use Rattle.cut.specs.declared.Measured.the-variants.{Total, Fault}
@@ -23,11 +22,11 @@ pub record InStep (ms news d : List ℕ) (f : InForce) : Type 0 where
   pub tells : Tells (tableOf f) (stateOf d f)
   pub ranked : Ranked (λ n. mem n ms) news (stateOf d f)
 
--- a good record x stands at `at`
-pub record Stands (ms news d : List ℕ) (at : ℕ) (f : InForce) (x : Shown) : Type 0 where
+-- a good record stands at `at`, and o is its outline
+pub record Stands (ms news d : List ℕ) (at : ℕ) (f : InForce) (o : Outline) : Type 0 where
   pub before : at < length d
-  pub shown : x ≡ readOne 4096 (tableOf f) (drop at d)
-  pub good : fault x ≡ 0
+  pub good : fault (shownAt d f at) ≡ 0
+  pub outlined : o ≡ outlineOf (shownAt d f at)
   pub step : InStep ms news d f
 
 -- the first pass' answer

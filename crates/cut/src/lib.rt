@@ -8,13 +8,13 @@ ghost use Rattle.form.specs.Record.{next};
 ghost use Rattle.form.specs.Dump.{writes, Splits};
 ghost use Rattle.page.specs.Rib.{entry};
 ghost use Rattle.page.specs.Peers.{peer};
-ghost use Rattle.reading.specs.Answer as answer;
+ghost use Rattle.reading.specs.Answer.{place};
 ghost use Rattle.copy.specs.Over.{over};
 ghost use Rattle.cutting.specs.Cut.{mem, cutting};
 ghost use Rattle.moving.specs.Found.{Lie};
 ghost use Rattle.moving.specs.One.{cutOne};
 ghost use Rattle.cut_laws.specs.Answer.{leftOf, cutAnswer, leaves};
-ghost use Rattle.cut.specs.State.{mrt, stateOf, tableOf, recAt};
+ghost use Rattle.cut.specs.State.{mrt, stateOf, tableOf, shownAt, recAt};
 ghost use Rattle.cut.specs.Left.{leftOctets, Sound, Small, sizeOf, frontLeft, PeersOf, EntriesOf};
 ghost use Rattle.cut.specs.Stands.{InStep, Stands, Measures};
 ghost use Rattle.cut.specs.declared.Left.the-variants.{Gone, Whole};
@@ -27,15 +27,12 @@ use cut_items::write_entries;
 use cut_items::write_peers;
 use cutting::Cutted;
 use num::put_number;
-use parts::fault;
-use parts::place;
-use parts::time;
-use record::read_record;
-use shown::Header;
-use shown::Peers;
-use shown::Routes;
-use shown::Shown;
+use outline::Outline;
+use outline::end_at;
+use outline::outline_at;
 use shown::Table;
+use walk::step_at;
+use walking::Step;
 
 // The table in force: whether there is one, where its peers start in the dump, and how many they are.
 pub struct InForce {
@@ -100,10 +97,10 @@ fn whole_if(keep: bool, size: usize) -> Left
 }
 
 // Whether a record stays that its peer AS decides.
-fn stays(h: Header, peer: u64, start: u64, end: u64, mutes: &[u32]) -> bool
-    ensures { λ r. ⌜ r ≡ ((leb start (answer.time h) && ltb (answer.time h) end) && not (mem peer (now (mutes .entry)))) ⌝ }
+fn stays(time: u64, peer: u64, start: u64, end: u64, mutes: &[u32]) -> bool
+    ensures { λ r. ⌜ r ≡ ((leb start time && ltb time end) && not (mem peer (now (mutes .entry)))) ⌝ }
 {
-    if inside(time(h), start, end) {
+    if inside(time, start, end) {
         if listed(peer, mutes) {
             return false;
         }
@@ -112,13 +109,10 @@ fn stays(h: Header, peer: u64, start: u64, end: u64, mutes: &[u32]) -> bool
     false
 }
 
-fn peers_of(d: &[u8], at: usize, p: Peers, mutes: &[u32]) -> Left
-    requires { ⌜ (14 ≤ p .peers .at) × (at + p .peers .at ≤ length (now d)) × Lie peer (p .count) (drop (at + p .peers .at) (now d)) ⌝ }
-    ensures { λ r. ⌜ PeersOf (now (mutes .entry)) (now (d .entry)) at p r ⌝ }
+fn peers_of(d: &[u8], at: usize, off: usize, count: u64, mutes: &[u32]) -> Left
+    requires { ⌜ (14 ≤ off) × (at + off ≤ length (now d)) × Lie peer count (drop (at + off) (now d)) ⌝ }
+    ensures { λ r. ⌜ PeersOf (now (mutes .entry)) (now (d .entry)) at off count r ⌝ }
 {
-    let region = p.peers;
-    let off = region.at;
-    let count = p.count;
     let from = at + off;
     let k = measure_peers(d, from, count, mutes);
     let kept = k.count;
@@ -133,13 +127,10 @@ fn peers_of(d: &[u8], at: usize, p: Peers, mutes: &[u32]) -> Left
     })
 }
 
-fn entries_of(d: &[u8], at: usize, e: Routes, peers: u64, news: &[u32]) -> Left
-    requires { ⌜ (14 ≤ e .entries .at) × (at + e .entries .at ≤ length (now d)) × Lie (entry peers) (e .count) (drop (at + e .entries .at) (now d)) × (peers ≤ length (now news)) ⌝ }
-    ensures { λ r. ⌜ EntriesOf (now (news .entry)) (now (d .entry)) at e peers r ⌝ }
+fn entries_of(d: &[u8], at: usize, off: usize, count: u64, peers: u64, news: &[u32]) -> Left
+    requires { ⌜ (14 ≤ off) × (at + off ≤ length (now d)) × Lie (entry peers) count (drop (at + off) (now d)) × (peers ≤ length (now news)) ⌝ }
+    ensures { λ r. ⌜ EntriesOf (now (news .entry)) (now (d .entry)) at off count peers r ⌝ }
 {
-    let region = e.entries;
-    let off = region.at;
-    let count = e.count;
     let from = at + off;
     let k = measure_entries(d, from, count, peers, news);
     let kept = k.count;
@@ -159,50 +150,32 @@ fn entries_of(d: &[u8], at: usize, e: Routes, peers: u64, news: &[u32]) -> Left
     })
 }
 
-// What is left of the record x that stands at `at`.
+// What is left of the record of `size` octets that stands at `at`; o is its outline.
 fn left_of(
     d: &[u8],
     at: usize,
-    x: Shown,
+    size: usize,
+    o: Outline,
     f: InForce,
     start: u64,
     end: u64,
     mutes: &[u32],
     news: &[u32],
 ) -> Left
-    requires { ⌜ Stands (now mutes) (now news) (now d) at f x ⌝ }
+    requires { ⌜ Stands (now mutes) (now news) (now d) at f o ⌝ }
+    requires { ⌜ size ≡ place (shownAt (now d) f at) ⌝ }
     ensures { λ r. ⌜ (leftOctets (now (mutes .entry)) (now (news .entry)) (now (d .entry)) at r ≡ writes (cutOne mrt (cutting start end (now (mutes .entry))) (stateOf (now (d .entry)) f) (recAt (now (d .entry)) f at))) × Sound (now (mutes .entry)) (now (news .entry)) (now (d .entry)) at r ⌝ }
 {
-    let size = place(x);
-    let count = f.count;
-    match x {
-        Shown::Nothing => Left::Gone,
-        Shown::Refused(_, _) => Left::Gone,
-        Shown::Unread(h, _) => whole_if(inside(time(h), start, end), size),
-        Shown::TableDump(h, r) => {
-            let peer = r.peer;
-            whole_if(stays(h, peer, start, end, mutes), size)
-        }
-        Shown::PeerTable(_, p) => peers_of(d, at, p, mutes),
-        Shown::Rib(h, e) => {
-            if inside(time(h), start, end) {
-                return entries_of(d, at, e, count, news);
+    let peers = f.count;
+    match o {
+        Outline::Unread(time) => whole_if(inside(time, start, end), size),
+        Outline::Peer(time, peer) => whole_if(stays(time, peer, start, end, mutes), size),
+        Outline::Table(off, count) => peers_of(d, at, off, count, mutes),
+        Outline::Rib(time, off, count) => {
+            if inside(time, start, end) {
+                return entries_of(d, at, off, count, peers, news);
             }
             Left::Gone
-        }
-        Shown::RibGeneric(h, _, _, e) => {
-            if inside(time(h), start, end) {
-                return entries_of(d, at, e, count, news);
-            }
-            Left::Gone
-        }
-        Shown::Change(h, s, _, _) => {
-            let peer = s.peer;
-            whole_if(stays(h, peer, start, end, mutes), size)
-        }
-        Shown::Message(h, s, _, _) => {
-            let peer = s.peer;
-            whole_if(stays(h, peer, start, end, mutes), size)
         }
     }
 }
@@ -282,25 +255,22 @@ fn put_left(
     }
 }
 
-// The table in force behind the record x; news are filled anew at a peer table.
+// The table in force behind a record whose outline is o; news are filled anew at a peer table.
 fn table_behind(
     d: &[u8],
     at: usize,
-    x: Shown,
+    o: Outline,
     f: InForce,
     mutes: &[u32],
     news: &mut [u32],
 ) -> InForce
-    requires { ⌜ Stands (now mutes) (now news) (now d) at f x ⌝ }
+    requires { ⌜ Stands (now mutes) (now news) (now d) at f o ⌝ }
     requires { ⌜ length (now news) ≡ 65536 ⌝ }
     ensures { λ r. ⌜ (stateOf (now (d .entry)) r ≡ next mrt (recAt (now (d .entry)) f at) (stateOf (now (d .entry)) f)) × InStep (now (mutes .entry)) (now (news .exit)) (now (d .entry)) r ⌝ }
 {
-    let Shown::PeerTable(_, p) = x else {
+    let Outline::Table(off, count) = o else {
         return f;
     };
-    let region = p.peers;
-    let off = region.at;
-    let count = p.count;
     let from = at + off;
     fill_news(d, from, count, mutes, news);
     InForce {
@@ -322,21 +292,26 @@ fn measure(d: &[u8], start: u64, end: u64, mutes: &[u32], news: &mut [u32]) -> M
         from: 0,
         count: 0,
     };
-    while at < d.len() {
-        let all = d.len();
-        let x = read_record(&d[at..all], told(f));
-        let n = fault(x);
-        if 0 < n {
-            return Measured::Fault(n, at);
+    loop {
+        match step_at(d, at, told(f)) {
+            Step::End => {
+                return Measured::Total(total);
+            }
+            Step::Fault(n, p) => {
+                return Measured::Fault(n, p);
+            }
+            Step::Record(i, _) => {
+                let next = i.next;
+                let o = outline_at(d, at, told(f));
+                total += size_of(left_of(d, at, next - at, o, f, start, end, mutes, news));
+                f = table_behind(d, at, o, f, mutes, news);
+                at = next;
+            }
         }
-        total += size_of(left_of(d, at, x, f, start, end, mutes, news));
-        f = table_behind(d, at, x, f, mutes, news);
-        at += place(x);
     }
-    Measured::Total(total)
 }
 
-// The second pass: lays what is left.
+// The second pass: lays what is left. The dump is known to be good, and not checked again.
 fn write_cut(d: &[u8], start: u64, end: u64, mutes: &[u32], news: &mut [u32], out: &mut [u8])
     requires { ⌜ Splits mrt (now d) ⌝ }
     requires { ⌜ length (now news) ≡ 65536 ⌝ }
@@ -351,12 +326,12 @@ fn write_cut(d: &[u8], start: u64, end: u64, mutes: &[u32], news: &mut [u32], ou
         count: 0,
     };
     while at < d.len() {
-        let all = d.len();
-        let x = read_record(&d[at..all], told(f));
-        let l = left_of(d, at, x, f, start, end, mutes, news);
+        let next = end_at(d, at, told(f));
+        let o = outline_at(d, at, told(f));
+        let l = left_of(d, at, next - at, o, f, start, end, mutes, news);
         put = put_left(d, at, l, mutes, news, out, put);
-        f = table_behind(d, at, x, f, mutes, news);
-        at += place(x);
+        f = table_behind(d, at, o, f, mutes, news);
+        at = next;
     }
 }
 

@@ -15,8 +15,8 @@ measure-entries-requires c κs = search needs
 returns : tie.Need-returns
 returns c = search needs
 
-sub-t15 : tie.Need-sub-t15
-sub-t15 c = search needs
+sub-t13 : tie.Need-sub-t13
+sub-t13 c = search needs
 
 returns-2 : tie.Need-returns-2
 returns-2 c =
@@ -24,4 +24,4 @@ returns-2 c =
     (refl, refl, refl, refl, m .0, m .1, λ h. ⊎-elim (λ w. let k = w .1 .left in omega (arith, k)) (λ w. let k = w .left in absurd (omega (arith, k))) (c .if1 .came))
 
 pub entries-of-spec : {M : Type 1} → statement M
-entries-of-spec = tie.close (tie.spec add-from measure-entries-requires returns sub-t15 returns-2)
+entries-of-spec = tie.close (tie.spec add-from measure-entries-requires returns sub-t13 returns-2)

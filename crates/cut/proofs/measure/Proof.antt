@@ -5,8 +5,7 @@ use lib.ListN.{length}
 use denote.Ref.{now}
 use Rattle.form.specs.Octets.{Octets}
 use Rattle.form.proofs.Octets.{octets-of}
-use Rattle.cut.proofs.One.{Here}
-use Rattle.cut.proofs.Pass.{small-of, goes-on, First, first-starts, first-done, first-fault, first-here, first-total, first-turn}
+use Rattle.cut.proofs.Pass.{small-of, goes-on, good-told, stands-told, First, first-starts, first-end, first-fault, first-here, first-total, first-turn}
 use borrow.Author.Needs.{needs}
 use Rattle.cut.proofs.measure.Statement.{statement}
 use Rattle.cut.proofs.measure.Tie as tie
@@ -23,76 +22,62 @@ octets c = octets-of (c .before .args .d .now) (λ k. omega (arith, c .shared-sl
 loop-holds : tie.Need-loop-holds Inv-loop μ-loop
 loop-holds c = let a = c .before .before .before .args in first-starts (a .start) (a .end) (now (a .mutes)) (now (a .d)) (now (a .news))
 
-sub-read-record : tie.Need-sub-read-record Inv-loop μ-loop
-sub-read-record c = search needs
-
-part-read-record-start : tie.Need-part-read-record-start Inv-loop μ-loop
-part-read-record-start c = search needs
-
-part-read-record-end : tie.Need-part-read-record-end Inv-loop μ-loop
-part-read-record-end c = search needs
-
 told-requires : tie.Need-told-requires Inv-loop μ-loop
 told-requires c κs = search needs
 
-read-record-requires : tie.Need-read-record-requires Inv-loop μ-loop
-read-record-requires c κs = search needs
+step-at-requires : tie.Need-step-at-requires Inv-loop μ-loop
+step-at-requires c κs = search needs
 
-fault-requires : tie.Need-fault-requires Inv-loop μ-loop
-fault-requires c κs = search needs
+enum-told : tie.Need-enum-told Inv-loop μ-loop
+enum-told c = search needs
 
 same-length : tie.Need-same-length Inv-loop μ-loop
-same-length c = c .before .before .before .before .before .before .loop .inv .long
+same-length c = c .before .before .before .before .loop .inv .long
 
 returns : tie.Need-returns Inv-loop μ-loop
-returns c =
-    let l = c .before .before .before .before .before .before .loop in
-    first-fault (octets (c .before .before .before .before .before .before .before .before .before)) (l .inv) (c .before .before .before .before .before .loop-test .taken) _ _ (c .before .before .before .told .ensures) (c .before .before .read-record .ensures) _ (c .before .fault .ensures) (c .if1 .taken)
+returns c = first-end (octets (c .before .before .before .before .before .before .before)) (c .before .before .before .before .loop .inv) _ _ (c .before .before .before .told .ensures) (c .before .before .step-at .ensures) (c .enum-told .given .1)
 
--- a good record stands there
-here : (c : tie.Else1 Inv-loop μ-loop)
-    → let a = c .before .before .before .before .before .before .before .before .before .before .args in
-    let l = c .before .before .before .before .before .before .loop in
-    Here (a .start) (a .end) (now (a .mutes)) (l .news) (now (a .d)) (l .at) (l .f) (c .before .before .read-record .result)
-here c =
-    let l = c .before .before .before .before .before .before .loop in
-    first-here (octets (c .before .before .before .before .before .before .before .before .before)) (l .inv) (c .before .before .before .before .before .loop-test .taken) _ _ (c .before .before .before .told .ensures) (c .before .before .read-record .ensures) _ (c .before .fault .ensures) (c .if1 .left)
+enum-known-n : tie.Need-enum-known-n Inv-loop μ-loop
+enum-known-n c = search needs
+
+same-length-2 : tie.Need-same-length-2 Inv-loop μ-loop
+same-length-2 c = c .before .before .before .before .before .loop .inv .long
+
+returns-2 : tie.Need-returns-2 Inv-loop μ-loop
+returns-2 c = first-fault (octets (c .before .before .before .before .before .before .before .before)) (c .before .before .before .before .before .loop .inv) _ _ (c .before .before .before .before .told .ensures) (c .before .before .before .step-at .ensures) _ _ (c .before .n .given .1)
+
+enum-known-i : tie.Need-enum-known-i Inv-loop μ-loop
+enum-known-i c = search needs
+
+told-requires-2 : tie.Need-told-requires-2 Inv-loop μ-loop
+told-requires-2 c κs = search needs
+
+outline-at-requires : tie.Need-outline-at-requires Inv-loop μ-loop
+outline-at-requires c κs = let h = first-here (octets (c .before .before .before .before .before .before .before .before .before)) (c .before .before .before .before .before .before .loop .inv) _ _ (c .before .before .before .before .before .told .ensures) (c .before .before .before .before .step-at .ensures) _ _ (c .before .before .i .given .1) .0 in (h .before, good-told h _ (c .told2 .ensures))
+
+sub-left-of : tie.Need-sub-left-of Inv-loop μ-loop
+sub-left-of c = let n = first-here (octets (c .before .before .before .before .before .before .before .before .before .before)) (c .before .before .before .before .before .before .before .loop .inv) _ _ (c .before .before .before .before .before .before .told .ensures) (c .before .before .before .before .before .step-at .ensures) _ _ (c .before .before .before .i .given .1) .1 in search needs
 
 left-of-requires : tie.Need-left-of-requires Inv-loop μ-loop
-left-of-requires c κs = here (c .before) .stands
+left-of-requires c κs = let h = first-here (octets (c .before .before .before .before .before .before .before .before .before .before .before)) (c .before .before .before .before .before .before .before .before .loop .inv) _ _ (c .before .before .before .before .before .before .before .told .ensures) (c .before .before .before .before .before .before .step-at .ensures) _ _ (c .before .before .before .before .i .given .1) in (stands-told (h .0) _ (c .before .before .told2 .ensures) _ (c .before .outline-at .ensures), omega (arith, h .1))
 
 size-of-requires : tie.Need-size-of-requires Inv-loop μ-loop
 size-of-requires c κs = small-of _ _ _ _ (c .left-of .result) (c .left-of .ensures .1)
 
 add-total : tie.Need-add-total Inv-loop μ-loop
-add-total c =
-    let l = c .before .before .before .before .before .before .before .before .before .loop in
-    let b = first-total (octets (c .before .before .before .before .before .before .before .before .before .before .before .before)) (l .inv) (here (c .before .before .before)) (c .before .left-of .result) (c .before .left-of .ensures) in
-    search needs
+add-total c = let b = first-total (octets (c .before .before .before .before .before .before .before .before .before .before .before .before .before)) (c .before .before .before .before .before .before .before .before .before .before .loop .inv) (first-here (octets (c .before .before .before .before .before .before .before .before .before .before .before .before .before)) (c .before .before .before .before .before .before .before .before .before .before .loop .inv) _ _ (c .before .before .before .before .before .before .before .before .before .told .ensures) (c .before .before .before .before .before .before .before .before .step-at .ensures) _ _ (c .before .before .before .before .before .before .i .given .1) .0) (c .before .left-of .result) (c .before .left-of .ensures) in search needs
 
 table-behind-requires : tie.Need-table-behind-requires Inv-loop μ-loop
-table-behind-requires c κs = (here (c .before .before .before .before) .stands, search needs)
-
-place-requires : tie.Need-place-requires Inv-loop μ-loop
-place-requires c κs = search needs
-
-add-at : tie.Need-add-at Inv-loop μ-loop
-add-at c = let g = goes-on (here (c .before .before .before .before .before .before .before .before)) in search needs
+table-behind-requires c κs = (stands-told (first-here (octets (c .before .before .before .before .before .before .before .before .before .before .before .before .before .before)) (c .before .before .before .before .before .before .before .before .before .before .before .loop .inv) _ _ (c .before .before .before .before .before .before .before .before .before .before .told .ensures) (c .before .before .before .before .before .before .before .before .before .step-at .ensures) _ _ (c .before .before .before .before .before .before .before .i .given .1) .0) _ (c .before .before .before .before .before .told2 .ensures) _ (c .before .before .before .before .outline-at .ensures), search needs)
 
 loop-less : tie.Need-loop-less Inv-loop μ-loop
-loop-less c = let g = goes-on (here (c .before .before .before .before .before .before .before .before)) in search needs
+loop-less c = let h = first-here (octets (c .before .before .before .before .before .before .before .before .before .before .before .before .before .before .before .before .before)) (c .before .before .before .before .before .before .before .before .before .before .before .before .before .before .loop .inv) _ _ (c .before .before .before .before .before .before .before .before .before .before .before .before .before .told .ensures) (c .before .before .before .before .before .before .before .before .before .before .before .before .step-at .ensures) _ _ (c .before .before .before .before .before .before .before .before .before .before .i .given .1) in let g = goes-on (h .0) in let n = h .1 in search needs
 
 loop-again : tie.Need-loop-again Inv-loop μ-loop
 loop-again c =
-    let l = c .before .before .before .before .before .before .before .before .before .before .before .before .before .before .loop in
-    let t = c .before .before .before .table-behind .ensures in
-    first-turn (octets (c .before .before .before .before .before .before .before .before .before .before .before .before .before .before .before .before .before)) (l .inv) (here (c .before .before .before .before .before .before .before .before)) (c .before .before .before .before .before .before .left-of .result) (c .before .before .before .before .before .before .left-of .ensures) _ _ _ _ (search needs) (t .0) (t .1) (c .place .ensures) (c .before .before .before .before .before .size-of .ensures)
-
-same-length-2 : tie.Need-same-length-2 Inv-loop μ-loop
-same-length-2 c = c .before .loop .inv .long
-
-returns-2 : tie.Need-returns-2 Inv-loop μ-loop
-returns-2 c = first-done (octets (c .before .before .before .before)) (c .before .loop .inv) (c .loop-test .left)
+    let h = first-here (octets (c .before .before .before .before .before .before .before .before .before .before .before .before .before .before .before .before .before)) (c .before .before .before .before .before .before .before .before .before .before .before .before .before .before .loop .inv) _ _ (c .before .before .before .before .before .before .before .before .before .before .before .before .before .told .ensures) (c .before .before .before .before .before .before .before .before .before .before .before .before .step-at .ensures) _ _ (c .before .before .before .before .before .before .before .before .before .before .i .given .1) in
+    let t = c .before .before .table-behind .ensures in
+    first-turn (octets (c .before .before .before .before .before .before .before .before .before .before .before .before .before .before .before .before .before)) (c .before .before .before .before .before .before .before .before .before .before .before .before .before .before .loop .inv) (h .0) (c .before .before .before .before .before .left-of .result) (c .before .before .before .before .before .left-of .ensures) _ _ _ _ (search needs) (t .0) (t .1) (h .1) (c .before .before .before .before .size-of .ensures)
 
 pub measure-spec : {M : Type 1} → statement M
 measure-spec =
@@ -101,21 +86,21 @@ measure-spec =
     Inv-loop
     μ-loop
     loop-holds
-    sub-read-record
-    part-read-record-start
-    part-read-record-end
     told-requires
-    read-record-requires
-    fault-requires
+    step-at-requires
+    enum-told
     same-length
     returns
+    enum-known-n
+    same-length-2
+    returns-2
+    enum-known-i
+    told-requires-2
+    outline-at-requires
+    sub-left-of
     left-of-requires
     size-of-requires
     add-total
     table-behind-requires
-    place-requires
-    add-at
     loop-less
-    loop-again
-    same-length-2
-    returns-2)
+    loop-again)

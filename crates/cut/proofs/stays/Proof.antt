@@ -4,9 +4,6 @@ use borrow.Author.Needs.{needs}
 use Rattle.cut.proofs.stays.Statement.{statement}
 use Rattle.cut.proofs.stays.Tie as tie
 
-time-requires : tie.Need-time-requires
-time-requires c κs = search needs
-
 inside-requires : tie.Need-inside-requires
 inside-requires c κs = search needs
 
@@ -14,19 +11,13 @@ listed-requires : tie.Need-listed-requires
 listed-requires c κs = search needs
 
 returns : tie.Need-returns
-returns c =
-    let i = rw (c .before .before .before .before .time .ensures) at (sym (c .before .before .before .inside .ensures) ∙ c .before .before .if1 .taken) in
-    rw (i, sym (c .before .listed .ensures) ∙ c .if2 .taken)
+returns c = rw (sym (c .before .before .before .inside .ensures) ∙ c .before .before .if1 .taken, sym (c .before .listed .ensures) ∙ c .if2 .taken)
 
 returns-2 : tie.Need-returns-2
-returns-2 c =
-    let i = rw (c .before .before .before .before .time .ensures) at (sym (c .before .before .before .inside .ensures) ∙ c .before .before .if1 .taken) in
-    rw (i, sym (c .before .listed .ensures) ∙ c .if2 .left)
+returns-2 c = rw (sym (c .before .before .before .inside .ensures) ∙ c .before .before .if1 .taken, sym (c .before .listed .ensures) ∙ c .if2 .left)
 
 returns-3 : tie.Need-returns-3
-returns-3 c =
-    let i = rw (c .before .before .time .ensures) at (sym (c .before .inside .ensures) ∙ c .if1 .left) in
-    rw i
+returns-3 c = rw (sym (c .before .inside .ensures) ∙ c .if1 .left)
 
 pub stays-spec : {M : Type 1} → statement M
-stays-spec = tie.close (tie.spec time-requires inside-requires listed-requires returns returns-2 returns-3)
+stays-spec = tie.close (tie.spec inside-requires listed-requires returns returns-2 returns-3)

@@ -1,12 +1,13 @@
 -- `cut::write_cut` meets its contract. Assumes nothing.
-use Prim.Native.Nat.{_-_, _^_, _<_}
+use mathlib.Core.Path.{_∙_}
+use Prim.Native.Nat.{_-_}
 use native.Mathlib.Omega.{arith}
 use lib.ListN.{length}
 use denote.Ref.{now}
 use Rattle.form.specs.Octets.{Octets}
 use Rattle.form.proofs.Octets.{octets-of}
 use Rattle.cut.proofs.One.{Here}
-use Rattle.cut.proofs.Pass.{goes-on, Second, second-starts, second-done, second-here, second-room, second-turn}
+use Rattle.cut.proofs.Pass.{goes-on, good-told, end-told, stands-told, Second, second-starts, second-done, second-here, second-room, second-turn}
 use borrow.Author.Needs.{needs}
 use Rattle.cut.proofs.write_cut.Statement.{statement}
 use Rattle.cut.proofs.write_cut.Tie as tie
@@ -20,62 +21,53 @@ abbrev μ-loop : tie.MeasureT-loop
 octets : (c : tie.After-shared-slice-known Inv-loop μ-loop) → Octets (c .before .args .d .now)
 octets c = octets-of (c .before .args .d .now) (λ k. omega (arith, c .shared-slice-known .given k))
 
+-- a good record stands there
+here : (c : tie.In-loop Inv-loop μ-loop)
+    → let a = c .before .before .before .before .before .before .args in
+    let l = c .before .loop in
+    Here (a .start) (a .end) (now (a .mutes)) (l .news) (now (a .d)) (l .at) (l .f)
+here c = second-here (c .before .loop .inv) (c .before .before .before .before .before .before .pre .1 .1) (octets (c .before .before .before .before .before)) (c .loop-test .taken)
+
 loop-holds : tie.Need-loop-holds Inv-loop μ-loop
 loop-holds c = let q = c .before .before .before .before in let a = q .args in second-starts (a .start) (a .end) (now (a .mutes)) (now (a .d)) (now (a .news)) (now (a .out)) (q .pre .0)
-
-sub-read-record : tie.Need-sub-read-record Inv-loop μ-loop
-sub-read-record c = search needs
-
-part-read-record-start : tie.Need-part-read-record-start Inv-loop μ-loop
-part-read-record-start c = search needs
-
-part-read-record-end : tie.Need-part-read-record-end Inv-loop μ-loop
-part-read-record-end c = search needs
 
 told-requires : tie.Need-told-requires Inv-loop μ-loop
 told-requires c κs = search needs
 
-read-record-requires : tie.Need-read-record-requires Inv-loop μ-loop
-read-record-requires c κs = search needs
+end-at-requires : tie.Need-end-at-requires Inv-loop μ-loop
+end-at-requires c κs = let h = here (c .before) in (h .before, good-told h _ (c .told .ensures))
 
--- a good record stands there
-here : (c : tie.After-read-record Inv-loop μ-loop)
-    → let a = c .before .before .before .before .before .before .before .before .before .args in
-    let l = c .before .before .before .before .loop in
-    Here (a .start) (a .end) (now (a .mutes)) (l .news) (now (a .d)) (l .at) (l .f) (c .read-record .result)
-here c = second-here (c .before .before .before .before .loop .inv) (c .before .before .before .before .before .before .before .before .before .pre .1 .1) (octets (c .before .before .before .before .before .before .before .before)) (c .before .before .before .loop-test .taken) _ _ (c .before .told .ensures) (c .read-record .ensures)
+told-requires-2 : tie.Need-told-requires-2 Inv-loop μ-loop
+told-requires-2 c κs = search needs
+
+outline-at-requires : tie.Need-outline-at-requires Inv-loop μ-loop
+outline-at-requires c κs = let h = here (c .before .before .before) in (h .before, good-told h _ (c .told2 .ensures))
+
+sub-left-of : tie.Need-sub-left-of Inv-loop μ-loop
+sub-left-of c = let n = end-told (here (c .before .before .before .before)) _ (c .before .before .before .told .ensures) _ (c .before .before .end-at .ensures .0) in search needs
 
 left-of-requires : tie.Need-left-of-requires Inv-loop μ-loop
-left-of-requires c κs = here (c .before) .stands
+left-of-requires c κs = let n = end-told (here (c .before .before .before .before .before)) _ (c .before .before .before .before .told .ensures) _ (c .before .before .before .end-at .ensures .0) in (stands-told (here (c .before .before .before .before .before)) _ (c .before .before .told2 .ensures) _ (c .before .outline-at .ensures), omega (arith, n))
 
 put-left-requires : tie.Need-put-left-requires Inv-loop μ-loop
 put-left-requires c κs =
-    let l = c .before .before .before .before .before .before .before .before .loop in
     let e = c .before .before .left-of .ensures in
-    (e .1, second-room (l .inv) (c .before .before .before .before .before .before .before .before .before .before .before .before .before .pre .1 .1) (here (c .before .before .before .before)) (c .before .before .left-of .result) e)
+    (e .1, second-room (c .before .before .before .before .before .before .before .before .before .loop .inv) (c .before .before .before .before .before .before .before .before .before .before .before .before .before .before .pre .1 .1) (here (c .before .before .before .before .before .before .before .before)) (c .before .before .left-of .result) e)
 
 table-behind-requires : tie.Need-table-behind-requires Inv-loop μ-loop
-table-behind-requires c κs = (here (c .before .before .before .before .before .before .before .before) .stands, search needs)
-
-place-requires : tie.Need-place-requires Inv-loop μ-loop
-place-requires c κs = search needs
-
--- offsets in the dump are those of a 64-bit machine
-short : (c : tie.After-read-record Inv-loop μ-loop) → length (now (c .before .before .before .before .before .before .before .before .before .args .d)) < 2 ^ 64
-short c = search needs
-
-add-at : tie.Need-add-at Inv-loop μ-loop
-add-at c = let g = goes-on (here (c .before .before .before .before .before .before .before .before .before .before .before .before)) in let e = c .place .ensures in omega (arith, short (c .before .before .before .before .before .before .before .before .before .before .before .before))
+table-behind-requires c κs =
+    let l = c .before .before .before .before .before .before .before .before .before .before .before .before .before .loop .inv .long in
+    let p = c .before .before .before .before .before .before .before .before .before .before .before .before .before .before .before .before .before .before .pre .1 .0 in
+    (stands-told (here (c .before .before .before .before .before .before .before .before .before .before .before .before)) _ (c .before .before .before .before .before .before .before .before .before .told2 .ensures) _ (c .before .before .before .before .before .before .before .before .outline-at .ensures), l ∙ p)
 
 loop-less : tie.Need-loop-less Inv-loop μ-loop
-loop-less c = let g = goes-on (here (c .before .before .before .before .before .before .before .before .before .before .before .before)) in search needs
+loop-less c = let n = end-told (here (c .before .before .before .before .before .before .before .before .before .before .before .before .before .before .before)) _ (c .before .before .before .before .before .before .before .before .before .before .before .before .before .before .told .ensures) _ (c .before .before .before .before .before .before .before .before .before .before .before .before .before .end-at .ensures .0) in let g = goes-on (here (c .before .before .before .before .before .before .before .before .before .before .before .before .before .before .before)) in search needs
 
 loop-again : tie.Need-loop-again Inv-loop μ-loop
 loop-again c =
-    let l = c .before .before .before .before .before .before .before .before .before .before .before .before .before .before .before .before .loop in
-    let t = c .before .before .before .table-behind .ensures in
-    let p = c .before .before .before .before .before .before .before .put-left .ensures in
-    second-turn (l .inv) (c .before .before .before .before .before .before .before .before .before .before .before .before .before .before .before .before .before .before .before .before .before .pre .1 .1) (here (c .before .before .before .before .before .before .before .before .before .before .before .before)) (c .before .before .before .before .before .before .before .before .before .before .left-of .result) (c .before .before .before .before .before .before .before .before .before .before .left-of .ensures) _ _ _ _ _ (search needs) (t .0) (t .1) (c .place .ensures) (p .0) (p .1)
+    let t = c .before .before .table-behind .ensures in
+    let p = c .before .before .before .before .before .before .put-left .ensures in
+    second-turn (c .before .before .before .before .before .before .before .before .before .before .before .before .before .before .before .before .loop .inv) (c .before .before .before .before .before .before .before .before .before .before .before .before .before .before .before .before .before .before .before .before .before .pre .1 .1) (here (c .before .before .before .before .before .before .before .before .before .before .before .before .before .before .before)) (c .before .before .before .before .before .before .before .before .before .left-of .result) (c .before .before .before .before .before .before .before .before .before .left-of .ensures) _ _ _ _ _ (search needs) (t .0) (t .1) (end-told (here (c .before .before .before .before .before .before .before .before .before .before .before .before .before .before .before)) _ (c .before .before .before .before .before .before .before .before .before .before .before .before .before .before .told .ensures) _ (c .before .before .before .before .before .before .before .before .before .before .before .before .before .end-at .ensures .0)) (p .0) (p .1)
 
 same-length : tie.Need-same-length Inv-loop μ-loop
 same-length c = c .before .loop .inv .long
@@ -93,16 +85,14 @@ write-cut-spec =
     Inv-loop
     μ-loop
     loop-holds
-    sub-read-record
-    part-read-record-start
-    part-read-record-end
     told-requires
-    read-record-requires
+    end-at-requires
+    told-requires-2
+    outline-at-requires
+    sub-left-of
     left-of-requires
     put-left-requires
     table-behind-requires
-    place-requires
-    add-at
     loop-less
     loop-again
     same-length
