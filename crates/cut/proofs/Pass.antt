@@ -22,7 +22,7 @@ use Rattle.walking.specs.Steps.{stepOf, stepAt}
 use Rattle.walking.specs.declared.Item.{Item}
 use Rattle.walking.specs.declared.Step.{Step}
 use Rattle.walking.specs.declared.Step.the-variants as step
-use Rattle.walk.proofs.Laws.{past-end}
+use Rattle.walk.proofs.Answers.{stepTag, over-record, at-fault, at-end, before-end}
 use Rattle.cutting.specs.Cut.{cutting}
 use Rattle.copy.specs.Over.{over}
 use Rattle.moving.specs.One.{told, Ranked, Reads, cutOne}
@@ -62,70 +62,6 @@ none = record { seen = false; from = 0; count = 0 }
 starts : (ms news d : List ℕ) → InStep ms news d none
 unfolding told Ranked
 starts ms news d = record { tells = tt; ranked = tt }
-
--- ---- a step at `at`
-
-abbrev stepTag : Step → ℕ
-stepTag step.End = 0
-stepTag (step.Fault n p) = 1
-stepTag (step.Record i t) = 2
-
-abbrev nextOf : Step → ℕ
-nextOf step.End = 0
-nextOf (step.Fault n p) = 0
-nextOf (step.Record i t) = i .next
-
-abbrev numberOf : Step → ℕ
-numberOf step.End = 0
-numberOf (step.Fault n p) = n
-numberOf (step.Record i t) = 0
-
-abbrev placeOf : Step → ℕ
-placeOf step.End = 0
-placeOf (step.Fault n p) = p
-placeOf (step.Record i t) = 0
-
-module _ (t : Table) (at : ℕ) where
-  over-record : (i : Item) (u : Table) (x : Shown) → stepOf t at x ≡ step.Record i u → (fault x ≡ 0) × (i .next ≡ at + place x)
-  over-record i u Nothing e = absurd (omega (arith, ap stepTag e))
-  over-record i u (Refused n p) e = absurd (omega (arith, ap stepTag e))
-  over-record i u (Unread a b) e = (refl, sym (ap nextOf e))
-  over-record i u (TableDump a b) e = (refl, sym (ap nextOf e))
-  over-record i u (PeerTable a b) e = (refl, sym (ap nextOf e))
-  over-record i u (Rib a b) e = (refl, sym (ap nextOf e))
-  over-record i u (RibGeneric a b c g) e = (refl, sym (ap nextOf e))
-  over-record i u (Change a b c g) e = (refl, sym (ap nextOf e))
-  over-record i u (Message a b c g) e = (refl, sym (ap nextOf e))
-
-  at-fault : (n p : ℕ) (x : Shown) → stepOf t at x ≡ step.Fault n p → (q : ℕ) × (x ≡ Refused n q) × (p ≡ at)
-  at-fault n p Nothing e = absurd (omega (arith, ap stepTag e))
-  at-fault n p (Refused m q) e = (q, ap (λ (k : ℕ). Refused k q) (ap numberOf e), sym (ap placeOf e))
-  at-fault n p (Unread a b) e = absurd (omega (arith, ap stepTag e))
-  at-fault n p (TableDump a b) e = absurd (omega (arith, ap stepTag e))
-  at-fault n p (PeerTable a b) e = absurd (omega (arith, ap stepTag e))
-  at-fault n p (Rib a b) e = absurd (omega (arith, ap stepTag e))
-  at-fault n p (RibGeneric a b c g) e = absurd (omega (arith, ap stepTag e))
-  at-fault n p (Change a b c g) e = absurd (omega (arith, ap stepTag e))
-  at-fault n p (Message a b c g) e = absurd (omega (arith, ap stepTag e))
-
-  at-end : (x : Shown) → stepOf t at x ≡ step.End → x ≡ Nothing
-  at-end Nothing e = refl
-  at-end (Refused n p) e = absurd (omega (arith, ap stepTag e))
-  at-end (Unread a b) e = absurd (omega (arith, ap stepTag e))
-  at-end (TableDump a b) e = absurd (omega (arith, ap stepTag e))
-  at-end (PeerTable a b) e = absurd (omega (arith, ap stepTag e))
-  at-end (Rib a b) e = absurd (omega (arith, ap stepTag e))
-  at-end (RibGeneric a b c g) e = absurd (omega (arith, ap stepTag e))
-  at-end (Change a b c g) e = absurd (omega (arith, ap stepTag e))
-  at-end (Message a b c g) e = absurd (omega (arith, ap stepTag e))
-
-  -- a step that finds something stands before the dump's end
-  before-end : (d : List ℕ) → (stepTag (stepAt 4096 t d at) ≡ 0 → ⊥) → at < length d
-  before-end d h = go (ltb at (length d)) refl
-    where
-      go : (b : Bool) → ltb at (length d) ≡ b → at < length d
-      go true e = ltb-true at (length d) e
-      go false e = absurd (h (sym (ap stepTag (past-end 4096 t d at (ltb-false at (length d) e)))))
 
 good-with : (x : Shown) → ((n p : ℕ) → x ≡ Refused n p → ⊥) → fault x ≡ 0
 good-with Nothing h = refl
@@ -175,7 +111,7 @@ module _ {from to : ℕ} {ms d news₀ news : List ℕ} {at total : ℕ} {f : In
     taken = rw e at r
 
     some : (stepTag o ≡ 0 → ⊥) → at < length d
-    some h = before-end t at d (λ z. h (ap stepTag r ∙ z))
+    some h = before-end 4096 t at d (λ z. h (ap stepTag r ∙ z))
 
     pub first-end : o ≡ step.End → Splits mrt d × (total ≡ length (leftOf 4096 from to ms d)) × (walked 4096 d .fault ≡ 0)
     first-end g = first-done (go (ltb at (length d)) refl)

@@ -1,26 +1,35 @@
--- What is told of a record, out of the octets that the code lends as a part of the dump. Assumes nothing.
+-- What is told of a record, from the step over it and its outline. Assumes nothing.
 use mathlib.Core.Path.{_≡_, sym, ap, _∙_}
 use mathlib.Core.List.{List}
-use Prim.Native.Nat.{ℕ, _-_, _≤_}
+use Prim.Native.Nat.{ℕ, _<_}
 use native.Mathlib.Omega.{arith}
-use lib.ListN.{length, take, drop, length-drop, drop-of-length-le}
-use lib.Seq.{take-all}
-use Rattle.shown.specs.declared.Shown.{Shown}
+use lib.ListN.{length, drop}
 use Rattle.shown.specs.declared.Table.{Table}
+use Rattle.reading.specs.Answer.{fault}
 use Rattle.reading.specs.One.{readOne}
-use Rattle.round_trip.proofs.Accepts.{no-octets}
-use Rattle.dagsumilat.specs.Telling.{tableOf, noRecord, toldOf, toldAt}
+use Rattle.walking.specs.Steps.{stepAt}
+use Rattle.walking.specs.declared.Item.{Item}
+use Rattle.walking.specs.declared.Step.{Step}
+use Rattle.walking.specs.declared.Step.the-variants as step
+use Rattle.walk.proofs.Answers.{stepTag, over-record, before-end}
+use Rattle.outline.specs.Outlines.{outlineOf}
+use Rattle.outline.specs.declared.Outline.{Outline}
+use Rattle.dagsumilat.specs.Telling.{tableOf, noRecord, outlined, toldOf, toldAt}
 use Rattle.dagsumilat.specs.declared.Told.{Told}
 
-module _ (most table : ℕ) (d : List ℕ) (at : ℕ) where
-  pub past-end : (o : Told) → o ≡ noRecord 0 at table → length d ≤ at → o ≡ toldAt most table d at
+-- o is the step that the code has taken, where it told the table t
+module _ (most table : ℕ) (d : List ℕ) (at : ℕ) (t : Table) (o : Step) (b : t ≡ tableOf table) (r : o ≡ stepAt most t d at) where
+  pub told-step : (y : Step) (r : Told) → o ≡ y → r ≡ toldOf table at y (outlineOf (readOne most (tableOf table) (drop at d))) → r ≡ toldAt most table d at
   unfolding toldAt
-  past-end o e h = rw (drop-of-length-le d h, no-octets most (tableOf table)) e
+  told-step y z e s = s ∙ ap (λ (w : Step). toldOf table at w (outlineOf (readOne most (tableOf table) (drop at d)))) (sym e ∙ rw b at r)
 
-  -- o is what is told of x, which was shown there where the table t was told
-  pub told-of : (t : Table) (x y : Shown) (o : Told) → t ≡ tableOf table → x ≡ readOne most t (take (length d - at) (drop at d)) → x ≡ y → o ≡ toldOf table at y → o ≡ toldAt most table d at
-  unfolding toldAt
-  told-of t x y o b r e s =
-      let l : take (length d - at) (drop at d) ≡ drop at d = take-all (length d - at) (drop at d) (rw length-drop (omega arith)) in
-      let z : y ≡ readOne most (tableOf table) (drop at d) = sym e ∙ rw (b, l) at r in
-      s ∙ ap (toldOf table at) z
+  -- a good record stands there
+  pub stands : (u : Table) (i : Item) → u ≡ tableOf table → (v : Table) → o ≡ step.Record i v → (at < length d) × (fault (readOne most u (drop at d)) ≡ 0)
+  unfolding stepAt
+  stands u i a v e = (
+    before-end most t at d (λ z. omega (arith, ap stepTag (sym e ∙ r) ∙ z)),
+    rw (a, ← b) (over-record t at i v (readOne most t (drop at d)) (sym r ∙ e) .0),
+  )
+
+  pub told-record : (i : Item) (v u : Table) (k : Outline) (r : Told) → o ≡ step.Record i v → u ≡ tableOf table → k ≡ outlineOf (readOne most u (drop at d)) → r ≡ outlined i k table → r ≡ toldAt most table d at
+  told-record i v u k z e a g s = told-step (step.Record i v) z e (s ∙ ap (λ (w : Outline). outlined i w table) (rw a at g))

@@ -1,29 +1,32 @@
 // The library's calls for C and Rust (include/dagsumilat.h).
 ghost use mathlib.Core.Path.{_≡_};
-ghost use Prim.Native.Nat.{_+_, _^_, _<_};
 ghost use Rattle.form.specs.Pass.{pass};
 ghost use Rattle.page.specs.Peers as page;
-ghost use Rattle.page.specs.Rib as rib;
 ghost use Rattle.shown.specs.Told as show;
 ghost use Rattle.shown.specs.declared.Peer.the-variants as peers;
 ghost use Rattle.shown.specs.declared.Entry.the-variants as entries;
-ghost use Rattle.reading.specs.Answer.{end};
 ghost use Rattle.walking.specs.Walked.{walked};
 ghost use Rattle.cut_laws.specs.Answer.{cutAnswer, leaves};
 ghost use Rattle.dagsumilat.specs.Answers as words;
-ghost use Rattle.dagsumilat.specs.Telling.{tableOf, noRecord, good, toldAt};
+ghost use Rattle.dagsumilat.specs.Telling.{tableOf, noRecord, good, outlined, toldAt};
+ghost use Rattle.dagsumilat.specs.Unjudged.{entryFields};
 use cut::cut;
 use cutting::Cutted;
-use parts::time;
+use flow::Num;
+use flow::Room;
+use flow::field;
+use flow::skip;
+use outline::Outline;
+use outline::outline_at;
 use peers::peer_at;
-use record::read_record;
-use rib::entry_at;
 use shown::Entry;
-use shown::Header;
+use shown::Part;
 use shown::Peer;
-use shown::Shown;
 use shown::Table;
+use walk::step_at;
 use walk::walk;
+use walking::Item;
+use walking::Step;
 
 // A record: where it ends, the table in force behind it, its peer AS, where its items start, counted from its header, and how many
 // they are; or a fault's number and place.
@@ -106,18 +109,19 @@ fn no_record(fault: u8, at: usize, table: u64) -> Told
     }
 }
 
-fn good(at: usize, h: Header, table: u64, peer: u64, items: usize, count: u64) -> Told
-    requires { ⌜ at + end h < 2 ^ 64 ⌝ }
-    ensures { λ r. ⌜ r ≡ good at h table peer items count ⌝ }
+fn good(i: Item, table: u64, peer: u64, items: usize, count: u64) -> Told
+    ensures { λ r. ⌜ r ≡ good i table peer items count ⌝ }
 {
-    let length = h.length;
-    let ty = h.ty;
-    let subtype = h.subtype;
+    let place = i.next;
+    let time = i.time;
+    let ty = i.ty;
+    let subtype = i.subtype;
+    let length = i.length;
     Told {
         fault: 0,
-        place: at + (12 + length as usize),
+        place,
         table,
-        time: time(h),
+        time,
         ty,
         subtype,
         length,
@@ -127,48 +131,26 @@ fn good(at: usize, h: Header, table: u64, peer: u64, items: usize, count: u64) -
     }
 }
 
+// A record of the outline o, where `table` is in force.
+fn outlined(i: Item, o: Outline, table: u64) -> Told
+    ensures { λ r. ⌜ r ≡ outlined i o table ⌝ }
+{
+    let none = 18446744073709551615;
+    match o {
+        Outline::Unread(_) => good(i, table, none, 0, 0),
+        Outline::Peer(_, peer) => good(i, table, peer, 0, 0),
+        Outline::Table(items, count) => good(i, count, none, items, count),
+        Outline::Rib(_, items, count) => good(i, table, none, items, count),
+    }
+}
+
 fn told_at(d: &[u8], at: usize, table: u64) -> Told
     ensures { λ r. ⌜ r ≡ toldAt 4096 table (now (d .entry)) at ⌝ }
 {
-    let all = d.len();
-    if all <= at {
-        return no_record(0, at, table);
-    }
-    let none = 18446744073709551615;
-    match read_record(&d[at..all], table_of(table)) {
-        Shown::Nothing => no_record(0, at, table),
-        Shown::Refused(n, _) => no_record(n, at, table),
-        Shown::Unread(h, _) => good(at, h, table, none, 0, 0),
-        Shown::TableDump(h, r) => {
-            let peer = r.peer;
-            good(at, h, table, peer, 0, 0)
-        }
-        Shown::PeerTable(h, p) => {
-            let count = p.count;
-            let region = p.peers;
-            let items = region.at;
-            good(at, h, count, none, items, count)
-        }
-        Shown::Rib(h, e) => {
-            let count = e.count;
-            let region = e.entries;
-            let items = region.at;
-            good(at, h, table, none, items, count)
-        }
-        Shown::RibGeneric(h, _, _, e) => {
-            let count = e.count;
-            let region = e.entries;
-            let items = region.at;
-            good(at, h, table, none, items, count)
-        }
-        Shown::Change(h, s, _, _) => {
-            let peer = s.peer;
-            good(at, h, table, peer, 0, 0)
-        }
-        Shown::Message(h, s, _, _) => {
-            let peer = s.peer;
-            good(at, h, table, peer, 0, 0)
-        }
+    match step_at(d, at, table_of(table)) {
+        Step::End => no_record(0, at, table),
+        Step::Fault(n, p) => no_record(n, p, table),
+        Step::Record(i, _) => outlined(i, outline_at(d, at, table_of(table)), table),
     }
 }
 
@@ -225,12 +207,31 @@ pub extern "C" fn dagsumilat_peer(dump: &[u8], at: usize, answer: &mut [u64; 7])
     }
 }
 
-// The entry of a RIB record that starts at `at`, where the table in force has so many peers.
-#[no_mangle]
-pub extern "C" fn dagsumilat_entry(dump: &[u8], at: usize, peers: u64, answer: &mut [u64; 6])
-    ensures { λ _. ⌜ now (answer .exit) ≡ words.entry (now (answer .entry)) (pass show.entry entries.Bad (rib.entry peers) (now (dump .entry)) at) ⌝ }
+fn entry_fields(d: &[u8], at: usize) -> Entry
+    ensures { λ r. ⌜ r ≡ pass show.entry entries.Bad entryFields (now (d .entry)) at ⌝ }
 {
-    match entry_at(dump, at, peers) {
+    let Num::Value(index, a) = field(d, at, 2) else {
+        return Entry::Bad(5, at);
+    };
+    let Num::Value(originated, b) = field(d, a, 4) else {
+        return Entry::Bad(5, a);
+    };
+    let Num::Value(n, c) = field(d, b, 2) else {
+        return Entry::Bad(5, b);
+    };
+    let size = n as usize;
+    let Room::To(e) = skip(d, c, size) else {
+        return Entry::Bad(5, c);
+    };
+    Entry::At(index, originated, Part { at: c, size }, e)
+}
+
+// The entry of a RIB record that starts at `at`. It is not judged: that was done with its record.
+#[no_mangle]
+pub extern "C" fn dagsumilat_entry(dump: &[u8], at: usize, answer: &mut [u64; 6])
+    ensures { λ _. ⌜ now (answer .exit) ≡ words.entry (now (answer .entry)) (pass show.entry entries.Bad entryFields (now (dump .entry)) at) ⌝ }
+{
+    match entry_fields(dump, at) {
         Entry::At(index, originated, attributes, next) => {
             let from = attributes.at;
             let size = attributes.size;

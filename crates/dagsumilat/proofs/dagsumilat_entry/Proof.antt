@@ -5,8 +5,8 @@ use borrow.Author.Needs.{needs}
 use Rattle.dagsumilat.proofs.dagsumilat_entry.Statement.{statement}
 use Rattle.dagsumilat.proofs.dagsumilat_entry.Tie as tie
 
-entry-at-requires : tie.Need-entry-at-requires
-entry-at-requires c κs = search needs
+entry-fields-requires : tie.Need-entry-fields-requires
+entry-fields-requires c κs = search needs
 
 enum-known-index : tie.Need-enum-known-index
 enum-known-index c = search needs
@@ -54,16 +54,16 @@ element-write-answer-12 : tie.Need-element-write-answer-12
 element-write-answer-12 c = search needs
 
 returns : tie.Need-returns
-returns c = ap (entry (c .before .before .before .before .before .args .answer .now)) (sym (c .before .index .given .1) ∙ c .before .before .before .entry-at .ensures)
+returns c = ap (entry (c .before .before .before .before .before .args .answer .now)) (sym (c .before .index .given .1) ∙ c .before .before .before .entry-fields .ensures)
 
 returns-2 : tie.Need-returns-2
-returns-2 c = ap (entry (c .before .before .before .before .before .args .answer .now)) (sym (c .before .n .given .1) ∙ c .before .before .before .entry-at .ensures)
+returns-2 c = ap (entry (c .before .before .before .before .before .args .answer .now)) (sym (c .before .n .given .1) ∙ c .before .before .before .entry-fields .ensures)
 
 pub dagsumilat-entry-spec : {M : Type 1} → statement M
 dagsumilat-entry-spec =
     tie.close
     (tie.spec
-    entry-at-requires
+    entry-fields-requires
     enum-known-index
     element-write-answer
     element-write-answer-2
