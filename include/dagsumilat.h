@@ -96,17 +96,18 @@ void dagsumilat_record(const uint8_t *dump, size_t dump_len, size_t at, uint64_t
 void dagsumilat_peer(const uint8_t *dump, size_t dump_len, size_t at, uint64_t answer[7]);
 
 /*
- * The entry of a RIB record that starts at `at`, where the table in force has so many peers.
+ * The entry of a RIB record that starts at `at`. Its index and attributes are not judged: in a record that dagsumilat_record has
+ * found good they are good.
  *
- * answer[0]  0, or 5, 11 or 13
- * answer[1]  where the next entry starts, or the field that has the fault
+ * answer[0]  0 or 5
+ * answer[1]  where the next entry starts, or the field that is not complete
  * answer[2]  peer index
  * answer[3]  originated time, in seconds
  * answer[4]  where the attributes lie
  * answer[5]  their size
  * On a fault [2] to [5] are 0.
  */
-void dagsumilat_entry(const uint8_t *dump, size_t dump_len, size_t at, uint64_t peers, uint64_t answer[6]);
+void dagsumilat_entry(const uint8_t *dump, size_t dump_len, size_t at, uint64_t answer[6]);
 
 #ifdef __cplusplus
 }
