@@ -12,6 +12,9 @@ fn main() {
         );
         std::process::exit(1);
     }
+    if std::env::var("CARGO_CFG_TARGET_ARCH").as_deref() != Ok("x86_64") {
+        println!("cargo:warning=rt staticlib writes for x86-64: see host/README.md");
+    }
     println!("cargo:rerun-if-changed={}", archive.display());
     println!("cargo:rustc-link-search=native={}", folder.display());
     println!("cargo:rustc-link-lib=static=dagsumilat");

@@ -4,7 +4,7 @@ use crate::progress::Progress;
 use crate::stop::Stop;
 use std::io::{self, ErrorKind, Read, Write};
 use std::path::Path;
-use std::process::{Child, ChildStdin, Command, Stdio};
+use std::process::{Child, ChildStdin, Command, ExitStatus, Stdio};
 use std::sync::atomic::{AtomicU64, Ordering};
 use std::thread;
 
@@ -62,54 +62,68 @@ impl Archive {
         octets: &[u8],
         progress: &mut Progress,
     ) -> Result<Vec<u8>, Stop> {
-        let child = self.start(name)?;
         progress.stage("unpacking", Some(octets.len() as u64));
-        let unpacked = pass_through(child, octets, progress);
-        unpacked.map_err(|words| Stop::reading(name, &format!("{}: {words}", self.program())))
-    }
-
-    fn start(self, name: &Path) -> Result<Child, Stop> {
-        let mut command = Command::new(self.program());
-        command.arg("-dc").stdin(Stdio::piped()).stdout(Stdio::piped()).stderr(Stdio::piped());
-        command.spawn().map_err(|error| match error.kind() {
-            ErrorKind::NotFound => Stop::reading(
-                name,
-                &format!("the program {0} is not there; install {0}", self.program()),
-            ),
+        let unpacked = match self.start() {
+            Ok(child) => pass_through(child, octets, progress).and_then(|passed| passed.judge()),
+            Err(error) => Err(error),
+        };
+        unpacked.map_err(|error| match error.kind() {
+            ErrorKind::NotFound => {
+                Stop::reading(name, &format!("please install {}", self.program()))
+            }
             _ => Stop::reading(name, &format!("{}: {error}", self.program())),
         })
+    }
+
+    fn start(self) -> io::Result<Child> {
+        let mut command = Command::new(self.program());
+        command.arg("-dc").stdin(Stdio::piped()).stdout(Stdio::piped()).stderr(Stdio::piped());
+        command.spawn()
+    }
+}
+
+/// What came of an unpacking program.
+struct Passed {
+    octets: Vec<u8>,
+    words: Vec<u8>,
+    status: ExitStatus,
+}
+
+impl Passed {
+    /// The octets, if the program has nothing to say: bzip2 leaves out a damaged last part with words
+    /// alone, at status 0.
+    fn judge(self) -> io::Result<Vec<u8>> {
+        if self.status.success() && self.words.is_empty() {
+            return Ok(self.octets);
+        }
+        // Not every system says so before the program is started.
+        if self.status.code() == Some(127) {
+            return Err(ErrorKind::NotFound.into());
+        }
+        let text = String::from_utf8_lossy(&self.words);
+        let line = text.lines().map(str::trim).find(|line| !line.is_empty());
+        let line = line.unwrap_or("no further words");
+        Err(io::Error::other(format!("{line} ({})", self.status)))
     }
 }
 
 /// Gives the octets to a running program and takes what it writes. Threads feed it and listen to its
 /// complaints, so that no full pipe stops it.
-fn pass_through(
-    mut child: Child,
-    octets: &[u8],
-    progress: &mut Progress,
-) -> Result<Vec<u8>, String> {
+fn pass_through(mut child: Child, octets: &[u8], progress: &mut Progress) -> io::Result<Passed> {
     let input = child.stdin.take().expect("piped");
     let mut output = child.stdout.take().expect("piped");
     let mut errors = child.stderr.take().expect("piped");
     let fed = AtomicU64::new(0);
     let (taken, words) = thread::scope(|scope| {
         scope.spawn(|| feed(input, octets, &fed));
-        let listener = scope.spawn(move || {
-            let mut words = Vec::new();
-            errors.read_to_end(&mut words).map(|_| words)
-        });
+        let listener = scope.spawn(move || take(&mut errors, || {}));
         let taken = take(&mut output, || progress.at(fed.load(Ordering::Relaxed)));
         // A program that nobody listens to any more ends by itself.
         drop(output);
         (taken, listener.join().expect("the listener does not panic"))
     });
-    let status = child.wait().map_err(|error| error.to_string())?;
-    let words = words.map_err(|error| error.to_string())?;
-    // bzip2 leaves out a damaged last part with words alone, at status 0.
-    if !status.success() || !words.is_empty() {
-        return Err(format!("{status}; {}", first_words(&words)));
-    }
-    taken.map_err(|error| error.to_string())
+    let status = child.wait()?;
+    Ok(Passed { octets: taken?, words: words?, status })
 }
 
 /// That the program stops reading shows in its exit status.
@@ -123,17 +137,11 @@ fn feed(mut input: ChildStdin, octets: &[u8], fed: &AtomicU64) {
 }
 
 fn take(output: &mut impl Read, mut after_each: impl FnMut()) -> io::Result<Vec<u8>> {
-    let mut unpacked = Vec::new();
-    while output.by_ref().take(CHUNK as u64).read_to_end(&mut unpacked)? > 0 {
+    let mut taken = Vec::new();
+    while output.by_ref().take(CHUNK as u64).read_to_end(&mut taken)? > 0 {
         after_each();
     }
-    Ok(unpacked)
-}
-
-fn first_words(words: &[u8]) -> String {
-    let text = String::from_utf8_lossy(words);
-    let line = text.lines().map(str::trim).find(|line| !line.is_empty());
-    line.unwrap_or("no further words").to_string()
+    Ok(taken)
 }
 
 #[cfg(test)]
