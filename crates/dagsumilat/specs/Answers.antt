@@ -1,5 +1,5 @@
 -- What an answer array holds after a call: its first words are the answer's, in the order that include/dagsumilat.h gives. Assumes nothing.
-use mathlib.Core.List.{List, [], _::_}
+use mathlib.Core.List.{List, [], _∷_}
 use Prim.Native.Nat.{ℕ, suc}
 use lib.ListN.{set}
 use Rattle.shown.specs.declared.Peer.{Peer}
@@ -14,30 +14,30 @@ use Rattle.dagsumilat.specs.declared.Told.{Told}
 -- words laid over an array, from the i-th on
 abbrev pub wordsFrom : (i : ℕ) (array words : List ℕ) → List ℕ
 wordsFrom i a [] = a
-wordsFrom i a (w :: ws) = wordsFrom (suc i) (set a i w) ws
+wordsFrom i a (w ∷ ws) = wordsFrom (suc i) (set a i w) ws
 
 abbrev pub words : (array words : List ℕ) → List ℕ
 words a ws = wordsFrom 0 a ws
 
 -- fault, place, records
 abbrev pub checked : (array : List ℕ) → Walked → List ℕ
-checked a w = words a (w .fault :: w .place :: w .records :: [])
+checked a w = words a (w .fault ∷ w .place ∷ w .records ∷ [])
 
 -- fault, place, octets written
 abbrev pub cutted : (array : List ℕ) → Cutted → List ℕ
-cutted a (cuts.Octets n) = words a (0 :: 0 :: n :: [])
-cutted a (cuts.Refused n p) = words a (n :: p :: 0 :: [])
+cutted a (cuts.Octets n) = words a (0 ∷ 0 ∷ n ∷ [])
+cutted a (cuts.Refused n p) = words a (n ∷ p ∷ 0 ∷ [])
 
 -- fault, place, table, time, type, subtype, length, peer, items, count
 abbrev pub told : (array : List ℕ) → Told → List ℕ
-told a t = words a (t .fault :: t .place :: t .table :: t .time :: t .ty :: t .subtype :: t .length :: t .peer :: t .items :: t .count :: [])
+told a t = words a (t .fault ∷ t .place ∷ t .table ∷ t .time ∷ t .ty ∷ t .subtype ∷ t .length ∷ t .peer ∷ t .items ∷ t .count ∷ [])
 
 -- fault, place, AS, type, BGP ID, where the address lies and its size
 abbrev pub peer : (array : List ℕ) → Peer → List ℕ
-peer a (peers.Of kind id address as next) = words a (0 :: next :: as :: kind :: id :: address .at :: address .size :: [])
-peer a (peers.Bad n p) = words a (n :: p :: 0 :: 0 :: 0 :: 0 :: 0 :: [])
+peer a (peers.Of kind id address number next) = words a (0 ∷ next ∷ number ∷ kind ∷ id ∷ address .at ∷ address .size ∷ [])
+peer a (peers.Bad n p) = words a (n ∷ p ∷ 0 ∷ 0 ∷ 0 ∷ 0 ∷ 0 ∷ [])
 
 -- fault, place, peer index, originated, where the attributes lie and their size
 abbrev pub entry : (array : List ℕ) → Entry → List ℕ
-entry a (entries.At index originated attributes next) = words a (0 :: next :: index :: originated :: attributes .at :: attributes .size :: [])
-entry a (entries.Bad n p) = words a (n :: p :: 0 :: 0 :: 0 :: 0 :: [])
+entry a (entries.At index originated attributes next) = words a (0 ∷ next ∷ index ∷ originated ∷ attributes .at ∷ attributes .size ∷ [])
+entry a (entries.Bad n p) = words a (n ∷ p ∷ 0 ∷ 0 ∷ 0 ∷ 0 ∷ [])
