@@ -89,3 +89,32 @@ Examples:
     dagsumilat cut table.mrt --from 0 --to 9999-01-01T00:00:00Z --mute-file private.txt \\
       -o public.mrt
 ";
+
+#[cfg(test)]
+mod tests {
+    use super::*;
+
+    const MANUAL: &str = include_str!("../dagsumilat.1");
+
+    /// The words of a text that are options.
+    fn options(text: &str) -> impl Iterator<Item = &str> {
+        let ends = |c: char| c.is_whitespace() || ",.;()[]`".contains(c);
+        text.split(ends).filter(|word| word.starts_with('-') && word.len() > 1)
+    }
+
+    #[test]
+    fn the_manual_has_every_option_of_the_help() {
+        let manual = MANUAL.replace("\\-", "-");
+        for text in [PROGRAM, LIST, CHECK, PEERS, CUT] {
+            assert!(options(text).count() > 0);
+            for option in options(text) {
+                assert!(manual.contains(option), "{option} is not in the manual");
+            }
+        }
+    }
+
+    #[test]
+    fn the_manual_is_of_this_version() {
+        assert!(MANUAL.contains(&format!("\"{}\"", VERSION.trim_end())));
+    }
+}
