@@ -1,8 +1,9 @@
 //! The calls of include/dagsumilat.h. All unsafe code stands here.
 //!
-//! What makes each call sound: a slice's pointer is never null and has as many elements behind it as
-//! its length says; `out` and the answer are lent for writing, so that they overlap with nothing; and
-//! the calls promise to write nowhere else, keep no pointer and accept any octets and numbers.
+//! What makes each call sound: a slice's pointer is never null and has as many elements behind it
+//! as its length says; `out` and the answer are lent for writing, so that they overlap with
+//! nothing; and the calls promise to write nowhere else, keep no pointer and accept any octets and
+//! numbers.
 
 /// No table in force; no peer AS.
 pub const NONE: u64 = u64::MAX;

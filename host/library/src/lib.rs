@@ -1,8 +1,8 @@
 //! MRT dumps of route collectors (RFC 6396): checked, gone through record by record, and cut to a
 //! window of time without the peers that are to be muted.
 //!
-//! These are safe functions over a library proved in Rattle (include/dagsumilat.h). Any octets may be
-//! handed over. Offsets count from the dump's first octet; times are microseconds since 1970.
+//! These are safe functions over a library proved in Rattle (include/dagsumilat.h). Any octets may
+//! be handed over. Offsets count from the dump's first octet; times are microseconds since 1970.
 //!
 //! ```
 //! // A state change of AS 64500 at second 1: from Active to OpenSent.
@@ -17,6 +17,9 @@
 //! assert_eq!(dagsumilat::cut(&dump, window, &[64500]).unwrap(), []);
 //! ```
 
+#![deny(unsafe_code)]
+
+#[allow(unsafe_code)]
 mod calls;
 mod fault;
 mod items;

@@ -90,8 +90,8 @@ struct Passed {
 }
 
 impl Passed {
-    /// The octets, if the program has nothing to say: bzip2 leaves out a damaged last part with words
-    /// alone, at status 0.
+    /// The octets, if the program has nothing to say: bzip2 leaves out a damaged last part with
+    /// words alone, at status 0.
     fn judge(self) -> io::Result<Vec<u8>> {
         if self.status.success() && self.words.is_empty() {
             return Ok(self.octets);
@@ -107,8 +107,8 @@ impl Passed {
     }
 }
 
-/// Gives the octets to a running program and takes what it writes. Threads feed it and listen to its
-/// complaints, so that no full pipe stops it.
+/// Gives the octets to a running program and takes what it writes. Threads feed it and listen to
+/// its complaints, so that no full pipe stops it.
 fn pass_through(mut child: Child, octets: &[u8], progress: &mut Progress) -> io::Result<Passed> {
     let input = child.stdin.take().expect("piped");
     let mut output = child.stdout.take().expect("piped");

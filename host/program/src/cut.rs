@@ -38,7 +38,7 @@ pub fn cut(order: &CutOrder) -> Result<(), Stop> {
     Ok(())
 }
 
-/// Asks the library, with no dump yet: a long file need not be read for an order that cannot be met.
+/// Asks the library, with no dump yet: no file need be read for an order that cannot be met.
 fn refuse_window(window: Window) -> Result<(), Stop> {
     dagsumilat::cut(&[], window, &[]).map(drop).map_err(|refusal| {
         let (from, to) = (moment::shown(window.from), moment::shown(window.to));

@@ -1,5 +1,7 @@
-//! Checks, lists and cuts MRT dumps. A thin shell around the library: it reads files, calls, and tells
-//! people what came of it.
+//! Checks, lists and cuts MRT dumps. A thin shell around the library: it reads files, calls, and
+//! tells people what came of it.
+
+#![forbid(unsafe_code)]
 
 mod advice;
 mod archive;

@@ -122,8 +122,8 @@ impl Draft {
         }
     }
 
-    /// Gives the draft its name in one step. Unless it is to replace a file, it is linked, because a
-    /// link is never made over a file that somebody else put there meanwhile.
+    /// Gives the draft its name in one step. Unless it is to replace a file, it is linked, because
+    /// a link is never made over a file that somebody else put there meanwhile.
     fn place(self, path: &Path, force: bool) -> io::Result<()> {
         if force {
             return fs::rename(&self.0, path);

@@ -136,3 +136,15 @@ fn fold(by_as: &mut HashMap<u32, Count>, seen: Lately) {
         by_as.entry(seen.number).or_default().records += seen.records;
     }
 }
+
+#[cfg(test)]
+mod tests {
+    use super::*;
+
+    #[test]
+    fn kinds_stand_where_they_are_counted() {
+        for (index, (kind, _)) in KINDS.iter().enumerate() {
+            assert_eq!(*kind as usize, index);
+        }
+    }
+}
