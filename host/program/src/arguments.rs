@@ -145,10 +145,8 @@ fn cut(words: &mut Words) -> Result<Request, String> {
 impl CutWords {
     fn take(&mut self, option: &str, words: &mut Words) -> Result<(), String> {
         match option {
-            "--from" => {
-                once(&mut self.from, self.notes.time(option, &words.value(option)?)?, option)
-            }
-            "--to" => once(&mut self.to, self.notes.time(option, &words.value(option)?)?, option),
+            "--from" => once(&mut self.from, time(words, option, &mut self.notes)?, option),
+            "--to" => once(&mut self.to, time(words, option, &mut self.notes)?, option),
             "-o" | "--output" => once(&mut self.out, words.value(option)?, "OUT"),
             "--mute" => {
                 self.mutes.push(as_number(&words.value(option)?)?);
@@ -190,24 +188,19 @@ impl CutWords {
     }
 }
 
-/// Reads a TIME and notes what is doubtful about it.
-trait Notes {
-    fn time(&mut self, option: &str, value: &OsStr) -> Result<u64, String>;
-}
-
-impl Notes for Vec<String> {
-    fn time(&mut self, option: &str, value: &OsStr) -> Result<u64, String> {
-        let text = value.to_string_lossy();
-        let time = moment::parse(&text).map_err(|words| format!("{option}: '{text}' {words}"))?;
-        if moment::may_mean_seconds(&text) {
-            let shown = moment::shown(time);
-            self.push(format!(
-                "note: {option} {text} was taken as microseconds, {shown}; \
-                 seconds are written with a point, {text}.0"
-            ));
-        }
-        Ok(time)
+/// Takes a TIME and notes what is doubtful about it.
+fn time(words: &mut Words, option: &str, notes: &mut Vec<String>) -> Result<u64, String> {
+    let value = words.value(option)?;
+    let text = value.to_string_lossy();
+    let time = moment::parse(&text).map_err(|words| format!("{option}: '{text}' {words}"))?;
+    if moment::may_mean_seconds(&text) {
+        let shown = moment::shown(time);
+        notes.push(format!(
+            "note: {option} {text} was taken as microseconds, {shown}; \
+             seconds are written with a point, {text}.0"
+        ));
     }
+    Ok(time)
 }
 
 fn as_number(value: &OsStr) -> Result<u32, String> {
