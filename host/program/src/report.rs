@@ -86,11 +86,11 @@ impl Outcome<'_> {
         warnings
     }
 
-    /// Some producers write a 4-octet AS cut to 16 bits in records of 2 octets.
+    /// Some producers write a 4-octet AS cut to 16 bits in records of 2 octets. A muted number that
+    /// has 16 bits anyway is never left.
     fn shortened(&self, number: u32) -> Option<String> {
         let short = number & 0xffff;
-        let seen = number != short && self.after.by_as.contains_key(&short);
-        seen.then(|| {
+        self.after.by_as.contains_key(&short).then(|| {
             format!(
                 "AS{short} is still in the clip, and is what is left of muted AS{number} in \
                  16 bits: some producers write that; see whose records they are"

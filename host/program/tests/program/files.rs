@@ -48,10 +48,13 @@ fn an_input_is_never_written_over() {
 }
 
 #[test]
-fn an_input_is_refused_before_it_is_read() {
+fn an_output_is_refused_before_the_input_is_read() {
     let folder = Folder::new("unread");
     let file = folder.file("dump", b"no dump, and nobody looks");
     cut(&file, &file, &["--force"]).ended(2).told("it is an input").silent_about("fault");
+    let out = folder.file("clip", b"");
+    cut(&file, &out, &[]).ended(2).told("--force replaces it").silent_about("fault");
+    cut(&file, &folder.word("none/clip"), &[]).ended(2).told("its folder").silent_about("fault");
 }
 
 #[test]
