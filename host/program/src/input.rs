@@ -1,0 +1,73 @@
+//! Reading a whole dump: the library wants its octets in one piece.
+
+use crate::archive::Archive;
+use crate::progress::Progress;
+use crate::stop::Stop;
+use std::ffi::OsStr;
+use std::fs::{File, Metadata};
+use std::io::{self, Read};
+use std::os::fd::AsFd;
+use std::path::{Path, PathBuf};
+
+const CHUNK: u64 = 16 << 20;
+
+/// Where a dump comes from.
+#[derive(Clone, Debug, PartialEq, Eq)]
+pub enum Source {
+    File(PathBuf),
+    Standard,
+}
+
+impl Source {
+    pub fn of_word(word: &OsStr) -> Source {
+        match word.to_str() {
+            Some("-") => Source::Standard,
+            _ => Source::File(word.into()),
+        }
+    }
+
+    pub fn name(&self) -> &Path {
+        match self {
+            Source::File(path) => path,
+            Source::Standard => Path::new("standard input"),
+        }
+    }
+
+    fn open(&self) -> io::Result<File> {
+        match self {
+            Source::File(path) => File::open(path),
+            Source::Standard => Ok(File::from(io::stdin().as_fd().try_clone_to_owned()?)),
+        }
+    }
+
+    /// What the system knows of the file.
+    pub fn metadata(&self) -> Result<Metadata, Stop> {
+        let found = match self {
+            Source::File(path) => path.metadata(),
+            Source::Standard => self.open().and_then(|file| file.metadata()),
+        };
+        found.map_err(|error| Stop::reading(self.name(), &error))
+    }
+
+    /// The octets of the dump, unpacked.
+    pub fn read(&self, progress: &mut Progress) -> Result<Vec<u8>, Stop> {
+        let octets = self.octets(progress).map_err(|error| Stop::reading(self.name(), &error))?;
+        match Archive::of(self.name(), &octets) {
+            Some(archive) => archive.unpack(self.name(), &octets, progress),
+            None => Ok(octets),
+        }
+    }
+
+    fn octets(&self, progress: &mut Progress) -> io::Result<Vec<u8>> {
+        let mut file = self.open()?;
+        let metadata = file.metadata()?;
+        let size = metadata.is_file().then_some(metadata.len());
+        progress.stage("reading", size);
+        let mut octets = Vec::new();
+        octets.try_reserve_exact(usize::try_from(size.unwrap_or(0)).unwrap_or(usize::MAX))?;
+        while file.by_ref().take(CHUNK).read_to_end(&mut octets)? > 0 {
+            progress.at(octets.len() as u64);
+        }
+        Ok(octets)
+    }
+}

@@ -1,0 +1,51 @@
+//! Checks, lists and cuts MRT dumps. A thin shell around the library: it reads files, calls, and
+//! tells people what came of it.
+
+#![forbid(unsafe_code)]
+
+mod advice;
+mod archive;
+mod arguments;
+mod as_number;
+mod cut;
+mod help;
+mod input;
+mod moment;
+mod mutes;
+mod output;
+mod progress;
+mod report;
+mod show;
+mod stop;
+mod tally;
+mod words;
+
+use arguments::Request;
+use std::env;
+use std::io::{self, Write};
+use std::process::ExitCode;
+use stop::Stop;
+
+fn main() -> ExitCode {
+    match run() {
+        Ok(()) => ExitCode::SUCCESS,
+        Err(stop) => stop.tell(),
+    }
+}
+
+fn run() -> Result<(), Stop> {
+    let request = arguments::parse(env::args_os().skip(1)).map_err(|(words, command)| {
+        let command = command.map(|name| format!(" {name}")).unwrap_or_default();
+        Stop::Usage(format!("{words}\n  `dagsumilat{command} --help` says how it is used"))
+    })?;
+    match request {
+        Request::Text(text) => {
+            let printed = io::stdout().lock().write_all(text.as_bytes());
+            printed.map_err(|error| Stop::printing(&error))
+        }
+        Request::List(reading) => show::list(&reading),
+        Request::Check(reading) => show::check(&reading),
+        Request::Peers(reading) => show::peers(&reading),
+        Request::Cut(order) => cut::cut(&order),
+    }
+}

@@ -1,0 +1,59 @@
+//! Why a command ends before its work is done, and what is told on standard error.
+
+use std::fmt::Display;
+use std::io::{self, ErrorKind, Write};
+use std::path::Path;
+use std::process::ExitCode;
+
+/// Each holds the words for a person.
+#[derive(Debug)]
+pub enum Stop {
+    /// The dump or the order was refused.
+    Refused(String),
+    /// The command line says nothing that can be done.
+    Usage(String),
+    /// Something could not be read or written.
+    Trouble(String),
+    /// Whoever read standard output has read enough.
+    Closed,
+}
+
+impl Stop {
+    /// An error of reading `name`.
+    pub fn reading(name: &Path, error: &dyn Display) -> Stop {
+        Stop::Trouble(format!("cannot read {}: {error}", name.display()))
+    }
+
+    /// An error of writing `name`.
+    pub fn writing(name: &Path, error: &dyn Display) -> Stop {
+        Stop::Trouble(format!("cannot write {}: {error}", name.display()))
+    }
+
+    /// An error of writing text to standard output: `| head` is no trouble.
+    pub fn printing(error: &io::Error) -> Stop {
+        match error.kind() {
+            ErrorKind::BrokenPipe => Stop::Closed,
+            _ => Stop::writing(Path::new("standard output"), error),
+        }
+    }
+
+    /// Tells the words and gives the exit status.
+    pub fn tell(&self) -> ExitCode {
+        match self {
+            Stop::Refused(words) => {
+                tell(words);
+                ExitCode::from(1)
+            }
+            Stop::Usage(words) | Stop::Trouble(words) => {
+                tell(words);
+                ExitCode::from(2)
+            }
+            Stop::Closed => ExitCode::SUCCESS,
+        }
+    }
+}
+
+/// Writes to standard error under the program's name. That nobody can read it stops nothing.
+pub fn tell(words: &str) {
+    let _ = writeln!(io::stderr().lock(), "dagsumilat: {words}");
+}

@@ -1,0 +1,107 @@
+//! Dumps packed by gzip and bzip2.
+
+use crate::dumps::{record, sample};
+use crate::run::{command, finish, run, run_fed, Folder, Run};
+use std::fs::File;
+use std::io::Write;
+use std::process::{Command, Stdio};
+
+const PROGRAMS: [(&str, &str); 2] = [("gzip", "gz"), ("bzip2", "bz2")];
+
+fn pack(folder: &Folder, program: &str, octets: &[u8]) -> Vec<u8> {
+    let packed = File::create(folder.path("packed")).unwrap();
+    let mut child = Command::new(program)
+        .arg("-c")
+        .stdin(Stdio::piped())
+        .stdout(packed)
+        .spawn()
+        .unwrap_or_else(|error| panic!("{program}: {error}"));
+    child.stdin.take().unwrap().write_all(octets).unwrap();
+    assert!(child.wait().unwrap().success());
+    folder.read("packed")
+}
+
+/// More than fits in a pipe, before and after packing: half of it cannot be packed.
+fn large() -> Vec<u8> {
+    let mut state = 1_u32;
+    let noise: Vec<u8> = std::iter::repeat_with(|| {
+        state = state.wrapping_mul(1_664_525).wrapping_add(1_013_904_223);
+        (state >> 24) as u8
+    })
+    .take(300_000)
+    .collect();
+    [sample().repeat(100), record(1, 48, 0, &noise)].concat()
+}
+
+#[test]
+fn packed_dumps_are_read_as_plain_ones() {
+    let folder = Folder::new("packed");
+    for octets in [sample(), large(), Vec::new()] {
+        let plain = run_fed(&["list", "-"], &octets).ended(0).out;
+        for (program, extension) in PROGRAMS {
+            let packed = pack(&folder, program, &octets);
+            let named = folder.file(&format!("dump.{extension}"), &packed);
+            let unnamed = folder.file("dump.mrt", &packed);
+            assert!(run(&["list", &named]).ended(0).out == plain, "{program}, by its name");
+            assert!(run(&["list", &unnamed]).ended(0).out == plain, "{program}, by its octets");
+            assert!(run_fed(&["list", "-"], &packed).ended(0).out == plain, "{program}, piped");
+        }
+    }
+}
+
+#[test]
+fn parts_of_an_archive_are_joined() {
+    let folder = Folder::new("joined");
+    for (program, extension) in PROGRAMS {
+        let packed = pack(&folder, program, &sample()).repeat(2);
+        let file = folder.file(&format!("dump.{extension}"), &packed);
+        assert!(run(&["check", &file]).ended(0).out_text().contains("98 records"));
+    }
+}
+
+#[test]
+fn a_dump_that_starts_like_an_archive_is_read() {
+    for start in [0x1f8b_0800, u32::from_be_bytes(*b"BZh9")] {
+        let run = run_fed(&["list", "-"], &record(start, 11, 0, &[])).ended(0);
+        assert!(run.out_text().ends_with("\nfault=0 place=12\n"));
+    }
+}
+
+/// Cuts it and sees that nothing comes of it.
+fn assert_nothing_written(folder: &Folder, name: &str) -> Run {
+    let (file, out) = (folder.word(name), folder.word("out"));
+    let before = folder.names();
+    let run = run(&["cut", &file, "--from", "0", "--to", "9999-01-01T00:00:00Z", "-o", &out]);
+    assert!(run.out.is_empty());
+    assert_eq!(folder.names(), before);
+    run.ended(2).told("cannot read").told(name)
+}
+
+#[test]
+fn damaged_archives_are_input_errors() {
+    let folder = Folder::new("damaged");
+    for (program, extension) in PROGRAMS {
+        let packed = pack(&folder, program, &sample());
+        let half = packed[..packed.len() / 2].to_vec();
+        let mut changed = packed.clone();
+        changed[packed.len() / 2] ^= 0x10;
+        let trailing = [&packed[..], b"and more"].concat();
+        let half_behind = [&packed[..], &packed[..20]].concat();
+        for octets in [half, changed, trailing, half_behind, Vec::new(), sample()] {
+            let name = format!("dump.{extension}");
+            folder.file(&name, &octets);
+            assert_nothing_written(&folder, &name).told(program);
+        }
+    }
+}
+
+#[test]
+fn a_missing_program_is_named() {
+    let folder = Folder::new("missing");
+    for (program, extension) in PROGRAMS {
+        let file = folder.file(&format!("dump.{extension}"), &pack(&folder, program, &sample()));
+        let mut command = command(&["check", &file]);
+        command.env("PATH", folder.path("nowhere"));
+        finish(command).ended(2).told(&format!("install {program}"));
+    }
+}

@@ -1,0 +1,11 @@
+//! The built program, run as a person runs it.
+
+mod archives;
+mod cuts;
+mod damage;
+mod dumps;
+mod faults;
+mod files;
+mod run;
+mod shown;
+mod usage;

@@ -1,0 +1,56 @@
+//! Orders that cannot be understood, help, and input that is not there.
+
+use crate::dumps::SAMPLE;
+use crate::run::{run, Folder};
+
+#[test]
+fn help_and_version() {
+    assert!(run(&["--help"]).ended(0).out_text().contains("Commands:"));
+    assert!(run(&["--version"]).ended(0).out_text().starts_with("dagsumilat "));
+    for name in ["list", "check", "peers", "cut"] {
+        let usage = format!("Usage: dagsumilat {name} ");
+        assert!(run(&[name, "--help"]).ended(0).out_text().starts_with(&usage));
+    }
+    let cut = run(&["cut", "--help"]).ended(0);
+    assert!(cut.out_text().contains("up to but not including"));
+}
+
+#[test]
+fn wrong_usage_is_status_2() {
+    let wrong: [(&[&str], &str); 6] = [
+        (&[], "which command?"),
+        (&["slice", SAMPLE], "no such command: slice"),
+        (&["list"], "which FILE?"),
+        (&["list", SAMPLE, "--frm"], "no such option: --frm"),
+        (&["cut", SAMPLE, "--to", "1", "-o", "x"], "--from TIME is missing"),
+        (&["cut", SAMPLE, "--from", "2026-02-30T00:00:00Z"], "has day 30"),
+    ];
+    for (arguments, words) in wrong {
+        let run = run(arguments).ended(2).told(words).told("--help");
+        assert!(run.out.is_empty());
+    }
+}
+
+#[test]
+fn input_that_cannot_be_read_is_status_2() {
+    let folder = Folder::new("unreadable");
+    for name in ["list", "check", "peers"] {
+        run(&[name, &folder.word("none")]).ended(2).told("cannot read").told("none");
+        run(&[name, &folder.word("")]).ended(2).told("cannot read");
+    }
+    let (none, out) = (folder.word("none"), folder.word("out"));
+    run(&["cut", &none, "--from", "0", "--to", "1", "-o", &out]).ended(2).told("cannot read");
+    assert!(folder.names().is_empty());
+}
+
+#[test]
+fn small_numbers_are_noted() {
+    let folder = Folder::new("noted");
+    let cut = |from: &str, to: &str| {
+        let out = folder.word("out");
+        run(&["cut", SAMPLE, "--from", from, "--to", to, "-fqo", &out]).ended(0)
+    };
+    let run = cut("1772366400", "1772366401.0").told("--from 1772366400 was taken as microseconds");
+    run.told("1970-01-01T00:29:32.366400Z").silent_about("--to");
+    cut("0", "1772366401000000").silent_about("note");
+}
