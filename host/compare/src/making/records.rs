@@ -259,9 +259,10 @@ impl<'a> Maker<'a> {
     fn attribute(&mut self) {
         let flags = self.rng.word() as u8;
         let extended = flags & 16 != 0;
-        let size = match self.rng.below(16) {
-            0 => 255,
-            1 if extended => 256,
+        let size = match self.rng.below(2000) {
+            0 if extended => 20_000,
+            0..=99 => 255,
+            100..=199 if extended => 256,
             _ => self.rng.below(12),
         };
         self.out.extend([flags, self.rng.word() as u8]);
