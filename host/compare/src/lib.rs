@@ -11,4 +11,5 @@ pub mod lending;
 pub mod making;
 #[allow(unsafe_code)]
 mod proved;
+pub mod running;
 pub mod tally;

@@ -1,24 +1,24 @@
 //! A short comparison, and what must have happened in it for it to mean something.
 
-use compare::comparing::{compare_dump, compare_seed};
+use compare::comparing::compare_dump;
 use compare::cutting::compare_room;
 use compare::desk::{Ask, Desk, Spots};
+use compare::running::compare_seeds;
 use compare::tally::Tally;
 use second::cut_cases::Book;
 use second::vectors::rng::Rng;
 use second::vectors::Suite;
+use std::env;
 
-/// How many dumps each of the two tests of chance makes.
-const DUMPS: u64 = 60_000;
+/// How many dumps are made, if COMPARE_DUMPS does not say it. With fewer than some 3,000 not every
+/// answer is met.
+const DUMPS: u64 = 120_000;
 
-fn compared(seeds: impl Iterator<Item = u64>) -> Tally {
-    let (mut desk, mut tally) = (Desk::default(), Tally::default());
-    for seed in seeds {
-        if let Err(difference) = compare_seed(seed, &mut desk, &mut tally) {
-            panic!("{difference}");
-        }
+fn dumps() -> u64 {
+    match env::var("COMPARE_DUMPS") {
+        Ok(word) => word.parse().expect("COMPARE_DUMPS is not a number"),
+        Err(_) => DUMPS,
     }
-    tally
 }
 
 /// Every answer was met, and neither refusals nor cuts without effect are most of it.
@@ -33,16 +33,12 @@ fn is_telling(tally: &Tally) {
     assert!(tally.records > tally.dumps && tally.items > tally.dumps, "few records:\n{tally}");
 }
 
-// Two tests, for two processors.
-
 #[test]
-fn even_seeds_show_no_difference() {
-    is_telling(&compared((0..DUMPS).map(|number| 2 * number)));
-}
-
-#[test]
-fn odd_seeds_show_no_difference() {
-    is_telling(&compared((0..DUMPS).map(|number| 2 * number + 1)));
+fn chance_shows_no_difference() {
+    match compare_seeds(dumps(), 0) {
+        Ok(tally) => is_telling(&tally),
+        Err(difference) => panic!("{difference}"),
+    }
 }
 
 /// The dumps of the second program's suite, each made for one check.

@@ -201,7 +201,8 @@ impl<'a> Maker<'a> {
 
     fn entry(&mut self, peers: usize) {
         let index = match self.rng.below(4) {
-            _ if self.slip() => peers + self.rng.below(3),
+            // More often than other fields, since so much has to be right before it.
+            _ if self.slip() || self.slip() => peers + self.rng.below(3),
             0 => 0,
             1 => peers.saturating_sub(1),
             _ => self.rng.below(peers.max(1)),
