@@ -1,16 +1,40 @@
-//! Dumps as a route collector writes them, made up, and small ones with every layout.
+//! Dumps as a route collector writes them, made up.
 
 use crate::random::Random;
+use std::ops::RangeInclusive;
 
 const ROUND: u32 = 1_772_366_400;
 
-struct Peer {
-    wide_as: bool,
+/// A dump, and the AS numbers of its peers.
+pub struct Made {
+    pub dump: Vec<u8>,
+    pub numbers: Vec<u32>,
+    /// Timestamps from the first record's up to and including the last one's.
+    pub seconds: RangeInclusive<u32>,
+}
+
+pub struct Peer {
+    pub wide_as: bool,
     ipv6: bool,
     octets: [u8; 40],
 }
 
-fn peers(random: &mut Random, count: usize) -> Vec<Peer> {
+impl Peer {
+    fn as_octets(&self) -> &[u8] {
+        &self.octets[..if self.wide_as { 4 } else { 2 }]
+    }
+
+    fn number(&self) -> u32 {
+        self.as_octets().iter().fold(0, |number, octet| number << 8 | u32::from(*octet))
+    }
+
+    pub fn renumber(&mut self, number: u32) {
+        let size = self.as_octets().len();
+        self.octets[..size].copy_from_slice(&number.to_be_bytes()[4 - size..]);
+    }
+}
+
+pub fn peers(random: &mut Random, count: usize) -> Vec<Peer> {
     let mut peers = Vec::new();
     for _ in 0..count {
         let mut octets = [0; 40];
@@ -20,8 +44,18 @@ fn peers(random: &mut Random, count: usize) -> Vec<Peer> {
     peers
 }
 
+fn numbers(peers: &[Peer]) -> Vec<u32> {
+    peers.iter().map(Peer::number).collect()
+}
+
 /// A record whose message `fill` writes.
-fn record(out: &mut Vec<u8>, time: u32, kind: u16, subtype: u16, fill: impl FnOnce(&mut Vec<u8>)) {
+pub fn record(
+    out: &mut Vec<u8>,
+    time: u32,
+    kind: u16,
+    subtype: u16,
+    fill: impl FnOnce(&mut Vec<u8>),
+) {
     out.extend(time.to_be_bytes());
     out.extend(kind.to_be_bytes());
     out.extend(subtype.to_be_bytes());
@@ -33,7 +67,7 @@ fn record(out: &mut Vec<u8>, time: u32, kind: u16, subtype: u16, fill: impl FnOn
 }
 
 /// Something behind the 2 octets of its length.
-fn counted(out: &mut Vec<u8>, fill: impl FnOnce(&mut Vec<u8>)) {
+pub fn counted(out: &mut Vec<u8>, fill: impl FnOnce(&mut Vec<u8>)) {
     let at = out.len();
     out.extend([0; 2]);
     fill(out);
@@ -51,7 +85,7 @@ fn attribute(random: &mut Random, out: &mut Vec<u8>, flags: u8, code: u8, size: 
 }
 
 /// 40 to 120 octets of attributes.
-fn attributes(random: &mut Random, out: &mut Vec<u8>, ipv6: bool) {
+pub fn attributes(random: &mut Random, out: &mut Vec<u8>, ipv6: bool) {
     let start = out.len();
     loop {
         attribute(random, out, 0x40, 1, 1); // ORIGIN
@@ -84,16 +118,16 @@ fn attributes(random: &mut Random, out: &mut Vec<u8>, ipv6: bool) {
     }
 }
 
-fn session(out: &mut Vec<u8>, peer: &Peer) {
-    let (width, size) = (if peer.wide_as { 4 } else { 2 }, if peer.ipv6 { 16 } else { 4 });
-    out.extend(&peer.octets[..width]);
-    out.extend(&64_512_u32.to_be_bytes()[4 - width..]);
+pub fn session(out: &mut Vec<u8>, peer: &Peer) {
+    let size = if peer.ipv6 { 16 } else { 4 };
+    out.extend(peer.as_octets());
+    out.extend(&64_512_u32.to_be_bytes()[4 - peer.as_octets().len()..]);
     out.extend([0, 0, 0, if peer.ipv6 { 2 } else { 1 }]);
     out.extend(&peer.octets[4..4 + size]);
     out.extend(&peer.octets[20..20 + size]);
 }
 
-fn bgp(out: &mut Vec<u8>, kind: u8, fill: impl FnOnce(&mut Vec<u8>)) {
+pub fn bgp(out: &mut Vec<u8>, kind: u8, fill: impl FnOnce(&mut Vec<u8>)) {
     let at = out.len();
     out.extend([255; 16]);
     out.extend([0, 0, kind]);
@@ -116,7 +150,7 @@ fn update(random: &mut Random, out: &mut Vec<u8>, ipv6: bool, size: usize) {
 }
 
 /// Updates: types 16 and 17, subtypes 1 and 4, and a few state changes.
-pub fn updates(size: usize) -> Vec<u8> {
+pub fn updates(size: usize) -> Made {
     let mut random = Random::new(16);
     let random = &mut random;
     let peers = peers(random, 30);
@@ -148,29 +182,30 @@ pub fn updates(size: usize) -> Vec<u8> {
             }
         });
     }
-    out
+    Made { dump: out, numbers: numbers(&peers), seconds: ROUND..=time }
 }
 
-fn peer_table(out: &mut Vec<u8>, peers: &[Peer]) {
+pub fn peer_table(out: &mut Vec<u8>, peers: &[Peer]) {
     record(out, ROUND, 13, 1, |out| {
         out.extend([192, 0, 2, 1]);
         counted(out, |out| out.extend(b"view"));
         out.extend((peers.len() as u16).to_be_bytes());
         for peer in peers {
             out.push(peer.ipv6 as u8 | (peer.wide_as as u8) << 1);
-            let size = 4 + if peer.ipv6 { 16 } else { 4 } + if peer.wide_as { 4 } else { 2 };
-            out.extend(&peer.octets[..size]);
+            let size = 4 + if peer.ipv6 { 16 } else { 4 };
+            out.extend(&peer.octets[4..4 + size]);
+            out.extend(peer.as_octets());
         }
     });
 }
 
-fn prefix(random: &mut Random, out: &mut Vec<u8>, bits: usize) {
+pub fn prefix(random: &mut Random, out: &mut Vec<u8>, bits: usize) {
     out.push(bits as u8);
     random.octets(out, bits.div_ceil(8));
 }
 
 /// So many entries of rising peers.
-fn entries(random: &mut Random, out: &mut Vec<u8>, ipv6: bool, count: usize, peers: usize) {
+pub fn entries(random: &mut Random, out: &mut Vec<u8>, ipv6: bool, count: usize, peers: usize) {
     out.extend((count as u16).to_be_bytes());
     for entry in 0..count {
         let index = random.within(entry * peers / count, (entry + 1) * peers / count - 1);
@@ -181,11 +216,12 @@ fn entries(random: &mut Random, out: &mut Vec<u8>, ipv6: bool, count: usize, pee
 }
 
 /// A table of so many peers, then type 13, subtypes 2 and 4, with 5 to 30 entries each.
-pub fn table(size: usize, count: usize) -> Vec<u8> {
+pub fn table(size: usize, count: usize) -> Made {
     let mut random = Random::new(13);
     let random = &mut random;
+    let peers = peers(random, count);
     let mut out = Vec::with_capacity(size + 5000);
-    peer_table(&mut out, &peers(random, count));
+    peer_table(&mut out, &peers);
     let mut sequence = 0_u32;
     while out.len() < size {
         let ipv6 = random.once_in(5);
@@ -198,90 +234,5 @@ pub fn table(size: usize, count: usize) -> Vec<u8> {
         });
         sequence += 1;
     }
-    out
-}
-
-/// A table, most times, and up to seven records of any layout.
-pub fn small(random: &mut Random) -> Vec<u8> {
-    let mut out = Vec::new();
-    let count = random.within(1, 6);
-    let mut told = random.within(1, 5);
-    if !random.once_in(8) {
-        peer_table(&mut out, &peers(random, told));
-    }
-    for _ in 0..random.within(1, 7) {
-        match random.within(1, 8) {
-            1 => {
-                let kind = [11, 32, 48, 33, 49][random.within(0, 4)];
-                let (subtype, size) = (random.within(0, 9), random.within(4, 12));
-                record(&mut out, 1, kind, subtype as u16, |out| random.octets(out, size));
-            }
-            2 => {
-                let (subtype, size) = [(1, 4), (2, 16)][random.within(0, 1)];
-                record(&mut out, 2, 12, subtype, |out| {
-                    random.octets(out, 4 + size);
-                    out.push(random.within(0, 8 * size) as u8);
-                    random.octets(out, 5 + size + 2);
-                    counted(out, |out| attributes(random, out, size == 16));
-                });
-            }
-            3 => {
-                told = random.within(1, 5);
-                peer_table(&mut out, &peers(random, told));
-            }
-            4 | 5 => {
-                let (subtype, most) =
-                    [(2, 32), (3, 32), (4, 128), (5, 128), (6, 32), (6, 128)][random.within(0, 5)];
-                record(&mut out, 3, 13, subtype, |out| {
-                    random.octets(out, 4);
-                    if subtype == 6 {
-                        let family = if most == 32 { 1 } else { 2 };
-                        out.extend([0, family, random.within(1, 2) as u8]);
-                    }
-                    let bits = random.within(0, most);
-                    prefix(random, out, bits);
-                    let entry_count = random.within(0, count.min(told));
-                    entries(random, out, most == 128, entry_count, told);
-                });
-            }
-            _ => {
-                let peer = &peers(random, 1)[0];
-                let kind = random.within(16, 17) as u16;
-                let subtypes = if peer.wide_as { [4, 5, 7] } else { [0, 1, 6] };
-                let subtype = subtypes[random.within(0, 2)];
-                record(&mut out, 4, kind, subtype, |out| {
-                    random.octets(out, if kind == 17 { 4 } else { 0 });
-                    session(out, peer);
-                    if matches!(subtype, 0 | 5) {
-                        out.extend([0, random.within(1, 6) as u8, 0, random.within(1, 6) as u8]);
-                    } else if random.once_in(10) {
-                        let size = random.within(4095, 4097);
-                        bgp(out, 2, |out| random.octets(out, size - 19));
-                    } else {
-                        let size = random.within(19, 80);
-                        bgp(out, 2, |out| random.octets(out, size - 19));
-                    }
-                });
-            }
-        }
-    }
-    out
-}
-
-/// A few octets changed, put in or taken out, or the end cut off.
-pub fn damage(random: &mut Random, dump: &mut Vec<u8>) {
-    for _ in 0..random.within(0, 3) {
-        if dump.is_empty() {
-            return;
-        }
-        let at = random.within(0, dump.len() - 1);
-        match random.within(1, 8) {
-            1 => dump.truncate(at),
-            2 => dump.insert(at, random.next() as u8),
-            3 => drop(dump.remove(at)),
-            4 | 5 => dump[at] = dump[at].wrapping_add(1),
-            6 => dump[at] = dump[at].wrapping_sub(1),
-            _ => dump[at] = random.next() as u8,
-        }
-    }
+    Made { dump: out, numbers: numbers(&peers), seconds: ROUND..=ROUND }
 }

@@ -80,12 +80,21 @@ fn check(good: bool, fault: Fault) -> Checked<()> {
 
 /// All of a dump.
 pub fn dump(dump: &[u8]) -> Answer {
+    each(dump, |_| {})
+}
+
+/// All of a dump; `seen` is given each good record in turn.
+#[inline]
+pub fn each(dump: &[u8], mut seen: impl FnMut(&[u8])) -> Answer {
     let mut rest = dump;
     let mut table = None;
     let mut records = 0;
     while !rest.is_empty() {
         match record(rest, &mut table) {
-            Ok(after) => rest = after,
+            Ok(after) => {
+                seen(&rest[..rest.len() - after.len()]);
+                rest = after;
+            }
             Err(fault) => {
                 let place = (dump.len() - rest.len()) as u64;
                 return Answer { fault: fault as u64, place, records };

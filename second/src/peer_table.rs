@@ -18,7 +18,7 @@ pub struct Peer {
 }
 
 impl Peer {
-    fn read(reader: &mut Reader) -> Result<Peer, Fault> {
+    pub fn read(reader: &mut Reader) -> Result<Peer, Fault> {
         let octet = reader.u8()?;
         Ok(Peer {
             other_bits: octet & !(IPV6 | FOUR_OCTET_AS),
@@ -96,7 +96,7 @@ impl PeerTable {
 /// What a RIB record has to know of the latest peer table.
 #[derive(Clone, Copy, Debug, PartialEq, Eq)]
 pub struct TableInForce {
-    peers: usize,
+    pub peers: usize,
 }
 
 impl TableInForce {

@@ -17,7 +17,7 @@ pub struct Entry {
 }
 
 impl Entry {
-    fn read(reader: &mut Reader, table: TableInForce) -> Result<Entry, Fault> {
+    pub fn read(reader: &mut Reader, table: TableInForce) -> Result<Entry, Fault> {
         let peer_index = reader.u16()?;
         if !table.has(peer_index) {
             return Err(Fault::NoSuchPeer);

@@ -1,0 +1,145 @@
+//! One dump, read by both programs in every way there is.
+
+use crate::cutting;
+use crate::desk::{Desk, Spots, Told};
+use crate::expected::{self, NONE};
+use crate::lending::Spot;
+use crate::making;
+use crate::tally::Tally;
+use second::dump::{Dump, Located};
+use second::record::Body;
+use second::vectors::rng::Rng;
+use std::fmt::{self, Debug};
+
+/// Both answers to a call, and the dump it was made with.
+#[derive(Debug)]
+pub struct Difference {
+    pub seed: u64,
+    pub dump: Vec<u8>,
+    pub told: String,
+}
+
+impl fmt::Display for Difference {
+    fn fmt(&self, f: &mut fmt::Formatter) -> fmt::Result {
+        let digits: String = self.dump.iter().map(|octet| format!("{octet:02x}")).collect();
+        write!(f, "seed {}\n{}\ndump: {digits}", self.seed, self.told)
+    }
+}
+
+/// Makes a dump from a seed and compares all calls with it.
+pub fn compare_seed(seed: u64, desk: &mut Desk, tally: &mut Tally) -> Result<(), Difference> {
+    let mut rng = Rng::seeded(seed);
+    let made = making::any(&mut rng);
+    tally.kind(made.kind);
+    compare_dump(&made.dump, &mut rng, desk, tally).map_err(|told| Difference {
+        seed,
+        dump: made.dump,
+        told,
+    })
+}
+
+/// Compares all calls with this dump.
+pub fn compare_dump(dump: &[u8], rng: &mut Rng, desk: &mut Desk, tally: &mut Tally) -> Told<()> {
+    let read = Dump::read(dump);
+    tally.dumps += 1;
+    tally.faults[usize::from(read.end.number())] += 1;
+    desk.lay(dump, spots(rng));
+    same(|| "check".into(), desk.check()?, expected::check(&read))?;
+    walk(&read, desk, tally)?;
+    for _ in 0..4 {
+        stray(dump, &read, rng, desk, tally)?;
+    }
+    desk.is_unchanged()?;
+    cutting::compare(dump, &read, rng, desk, tally)
+}
+
+/// Nothing, or a call and both answers to it.
+pub fn same<T: PartialEq + Debug>(call: impl FnOnce() -> String, proved: T, second: T) -> Told<()> {
+    if proved == second {
+        return Ok(());
+    }
+    Err(format!("{}\nproved: {proved:?}\nsecond: {second:?}", call()))
+}
+
+/// Mostly right before a wall, since reading past the end is the likelier mistake.
+pub fn spots(rng: &mut Rng) -> Spots {
+    let mut spot = || match rng.below(8) {
+        0 => Spot::First,
+        1..=3 => Spot::Amid(rng.below(16)),
+        _ => Spot::Last,
+    };
+    Spots { dump: spot(), mutes: spot(), out: spot(), answer: spot() }
+}
+
+/// From record to record, as the header says that a dump is gone through.
+fn walk(read: &Dump, desk: &mut Desk, tally: &mut Tally) -> Told<()> {
+    let mut table = NONE;
+    for located in &read.records {
+        let at = located.offset;
+        let words = expected::record(&located.record, at, table);
+        same(|| format!("record at={at} table={table}"), desk.record(at, table)?, words)?;
+        table = words[2];
+        items(located, words[8] as usize, table, desk, tally)?;
+        tally.records += 1;
+    }
+    let at = read.end.place;
+    let words = expected::no_record(read.end.number().into(), at, table);
+    same(|| format!("record at={at} table={table}"), desk.record(at, table)?, words)
+}
+
+/// The peers of a table, or the entries of a RIB record.
+fn items(
+    located: &Located,
+    from: usize,
+    table: u64,
+    desk: &mut Desk,
+    tally: &mut Tally,
+) -> Told<()> {
+    let mut at = located.offset + from;
+    match &located.record.body {
+        Body::PeerTable(peers) => {
+            for words in expected::peers(peers, at) {
+                same(|| format!("peer at={at}"), desk.peer(at)?, words)?;
+                at = words[1] as usize;
+                tally.items += 1;
+            }
+        }
+        Body::Rib(rib) => {
+            for words in expected::entries(rib, at) {
+                same(|| format!("entry at={at} peers={table}"), desk.entry(at, table)?, words)?;
+                at = words[1] as usize;
+                tally.items += 1;
+            }
+        }
+        Body::Unread(_) | Body::TableDump(_) | Body::Bgp4mp(_) => {}
+    }
+    Ok(())
+}
+
+/// Any place, and any number of peers.
+fn stray(dump: &[u8], read: &Dump, rng: &mut Rng, desk: &mut Desk, tally: &mut Tally) -> Told<()> {
+    let at = stray_place(dump, read, rng);
+    let peers = match rng.below(4) {
+        0 => rng.word(),
+        _ => *rng.pick(&[NONE, NONE - 1, 0, 1, 2, 5, 255, 65_535, 65_536]),
+    };
+    tally.stray += 3;
+    let call = |name: &str| format!("{name} at={at} table or peers={peers}");
+    same(|| call("record"), desk.record(at, peers)?, expected::record_at(dump, at, peers))?;
+    same(|| call("peer"), desk.peer(at)?, expected::peer_at(dump, at))?;
+    same(|| call("entry"), desk.entry(at, peers)?, expected::entry_at(dump, at, peers))
+}
+
+/// Inside, about the end, at the end of all offsets, or some octets behind a record's start, where
+/// its items or its neighbours are.
+fn stray_place(dump: &[u8], read: &Dump, rng: &mut Rng) -> usize {
+    match rng.below(6) {
+        0 => usize::MAX - rng.below(20),
+        1 => (dump.len() + rng.below(20)).saturating_sub(10),
+        2 | 3 if !read.records.is_empty() => {
+            let start = rng.pick(&read.records).offset;
+            start + rng.below(40)
+        }
+        _ => rng.below(dump.len() + 1),
+    }
+}

@@ -1,0 +1,15 @@
+//! The proved library against the second program: the same dumps and the same calls to both, and
+//! every word and octet of the answers held against each other.
+
+#![deny(unsafe_code)]
+
+pub mod comparing;
+pub mod cutting;
+pub mod desk;
+pub mod expected;
+pub mod lending;
+pub mod making;
+#[allow(unsafe_code)]
+mod proved;
+pub mod running;
+pub mod tally;

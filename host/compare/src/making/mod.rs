@@ -1,0 +1,122 @@
+//! Dumps made up from a seed, for both programs to read.
+
+mod asks;
+mod damage;
+mod long;
+mod records;
+
+pub use asks::{ask, Known};
+pub use records::Maker;
+
+use second::cut_cases;
+use second::vectors::rng::Rng;
+
+/// What a dump is for.
+#[derive(Clone, Copy, Debug, PartialEq, Eq)]
+pub enum Kind {
+    /// Octets of chance: the header's faults, and no sense at all.
+    Octets,
+    /// Headers of types and subtypes that are read, before messages of chance: fields in every
+    /// state of being there.
+    Headers,
+    /// Good records of every layout: that nothing good is refused, and what a cut leaves.
+    Good,
+    /// Records in which a field now and then has a value at or over its edge: each check by itself.
+    Edges,
+    /// Good records, then octets changed, put in or taken out with no regard to fields.
+    Damaged,
+    /// The second program's own good dumps, which other hands have made.
+    Foreign,
+    /// Many records, entries and peers: sizes that do not fit in one or two octets.
+    Long,
+}
+
+impl Kind {
+    pub const ALL: [Kind; 7] = [
+        Kind::Octets,
+        Kind::Headers,
+        Kind::Good,
+        Kind::Edges,
+        Kind::Damaged,
+        Kind::Foreign,
+        Kind::Long,
+    ];
+
+    /// Long ones are rare, since each takes as long as some thousand others.
+    fn draw(rng: &mut Rng) -> Kind {
+        if rng.below(1500) == 0 {
+            return Kind::Long;
+        }
+        match rng.below(20) {
+            0 | 1 => Kind::Octets,
+            2..=4 => Kind::Headers,
+            5..=9 => Kind::Good,
+            10..=13 => Kind::Edges,
+            14..=17 => Kind::Damaged,
+            _ => Kind::Foreign,
+        }
+    }
+
+    fn dump(self, rng: &mut Rng) -> Vec<u8> {
+        match self {
+            Kind::Octets => {
+                let size = rng.below(101);
+                rng.octets(size)
+            }
+            Kind::Headers => headers(rng),
+            Kind::Good => good(rng),
+            Kind::Edges => {
+                let count = 1 + rng.below(8);
+                Maker::new(rng, 24).records(count)
+            }
+            Kind::Damaged => {
+                let dump = good(rng);
+                damage::damaged(dump, rng)
+            }
+            Kind::Foreign => cut_cases::random::dump(rng),
+            Kind::Long => long::dump(rng),
+        }
+    }
+}
+
+pub struct Made {
+    pub kind: Kind,
+    pub dump: Vec<u8>,
+}
+
+pub fn any(rng: &mut Rng) -> Made {
+    let kind = Kind::draw(rng);
+    Made { kind, dump: kind.dump(rng) }
+}
+
+/// A short dump without a fault.
+pub fn good(rng: &mut Rng) -> Vec<u8> {
+    let count = 1 + rng.below(8);
+    Maker::new(rng, 0).records(count)
+}
+
+/// One to three headers with their Lengths, or nearly, and small octets between.
+fn headers(rng: &mut Rng) -> Vec<u8> {
+    let mut dump = Vec::new();
+    for _ in 0..1 + rng.below(3) {
+        let (code, subtypes) = *rng.pick(&records::LAYOUTS);
+        let subtype = *rng.pick(subtypes);
+        let size = rng.below(60);
+        dump.extend(rng.octets(4));
+        dump.extend(u16::to_be_bytes(code));
+        dump.extend(u16::to_be_bytes(subtype));
+        let length = if rng.below(8) == 0 { rng.below(70) } else { size };
+        dump.extend((length as u32).to_be_bytes());
+        dump.extend((0..size).map(|_| small_octet(rng)));
+    }
+    dump
+}
+
+/// Mostly below 4, as the high octets and the counts of good fields are.
+fn small_octet(rng: &mut Rng) -> u8 {
+    match rng.below(5) {
+        0 => rng.word() as u8,
+        1 => *rng.pick(&[0x10, 0x13, 0x20, 0x21, 0x40, 0x50, 0x80, 0xff]),
+        _ => rng.below(4) as u8,
+    }
+}

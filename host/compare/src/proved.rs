@@ -1,0 +1,135 @@
+//! The proved library's calls, and memory between walls: pages that nobody may read or write.
+
+use std::ffi::{c_int, c_void};
+use std::marker::PhantomData;
+use std::{ptr, slice};
+
+extern "C" {
+    fn dagsumilat_check(dump: *const u8, dump_len: usize, answer: *mut [u64; 3]);
+    fn dagsumilat_cut(
+        dump: *const u8,
+        dump_len: usize,
+        from: u64,
+        to: u64,
+        mutes: *const u32,
+        mutes_len: usize,
+        out: *mut u8,
+        out_len: usize,
+        answer: *mut [u64; 3],
+    );
+    fn dagsumilat_record(
+        dump: *const u8,
+        dump_len: usize,
+        at: usize,
+        table: u64,
+        answer: *mut [u64; 10],
+    );
+    fn dagsumilat_peer(dump: *const u8, dump_len: usize, at: usize, answer: *mut [u64; 7]);
+    fn dagsumilat_entry(
+        dump: *const u8,
+        dump_len: usize,
+        at: usize,
+        peers: u64,
+        answer: *mut [u64; 6],
+    );
+
+    fn mmap(
+        address: *mut c_void,
+        size: usize,
+        protection: c_int,
+        flags: c_int,
+        file: c_int,
+        offset: i64,
+    ) -> *mut c_void;
+    fn mprotect(address: *mut c_void, size: usize, protection: c_int) -> c_int;
+    fn munmap(address: *mut c_void, size: usize) -> c_int;
+}
+
+// SAFETY of the calls: references are lent to them, so the memory is there, and what they write
+// to is lent to nobody else. That they keep to it is what is tried here.
+
+pub fn check(dump: &[u8], answer: &mut [u64; 3]) {
+    unsafe { dagsumilat_check(dump.as_ptr(), dump.len(), answer) }
+}
+
+pub fn cut(
+    dump: &[u8],
+    (from, to): (u64, u64),
+    mutes: &[u32],
+    out: &mut [u8],
+    answer: &mut [u64; 3],
+) {
+    let (dump, dump_len) = (dump.as_ptr(), dump.len());
+    let (mutes, mutes_len) = (mutes.as_ptr(), mutes.len());
+    let (out, out_len) = (out.as_mut_ptr(), out.len());
+    unsafe { dagsumilat_cut(dump, dump_len, from, to, mutes, mutes_len, out, out_len, answer) }
+}
+
+pub fn record(dump: &[u8], at: usize, table: u64, answer: &mut [u64; 10]) {
+    unsafe { dagsumilat_record(dump.as_ptr(), dump.len(), at, table, answer) }
+}
+
+pub fn peer(dump: &[u8], at: usize, answer: &mut [u64; 7]) {
+    unsafe { dagsumilat_peer(dump.as_ptr(), dump.len(), at, answer) }
+}
+
+pub fn entry(dump: &[u8], at: usize, peers: u64, answer: &mut [u64; 6]) {
+    unsafe { dagsumilat_entry(dump.as_ptr(), dump.len(), at, peers, answer) }
+}
+
+const NOTHING: c_int = 0;
+const READ_AND_WRITE: c_int = 3;
+const PRIVATE_ANONYMOUS: c_int = 0x22;
+
+/// A multiple of every page size in use.
+const WALL: usize = 65_536;
+
+/// Numbers for which zero octets are a value.
+///
+/// # Safety
+/// All octets of the type may be zero, and its alignment is below that of a page.
+pub unsafe trait Number: Copy {}
+unsafe impl Number for u8 {}
+unsafe impl Number for u32 {}
+unsafe impl Number for u64 {}
+
+/// Numbers that begin right behind a wall and end right before another one.
+pub struct Walled<T> {
+    start: *mut u8,
+    octets: usize,
+    kind: PhantomData<T>,
+}
+
+impl<T: Number> Walled<T> {
+    /// At least so many numbers, zero at first.
+    pub fn new(size: usize) -> Walled<T> {
+        let octets = (size * size_of::<T>()).next_multiple_of(WALL);
+        let all = octets + 2 * WALL;
+        // SAFETY: a new mapping, all of it walls; then its middle is opened.
+        let start = unsafe {
+            let mapped = mmap(ptr::null_mut(), all, NOTHING, PRIVATE_ANONYMOUS, -1, 0);
+            assert!(mapped as isize != -1, "no memory for {octets} octets");
+            let start = mapped.cast::<u8>().add(WALL);
+            assert_eq!(mprotect(start.cast(), octets, READ_AND_WRITE), 0, "no open pages");
+            start
+        };
+        Walled { start, octets, kind: PhantomData }
+    }
+
+    pub fn numbers(&self) -> &[T] {
+        // SAFETY: these octets are open, live as long as `self`, and any of them make numbers.
+        unsafe { slice::from_raw_parts(self.start.cast(), self.octets / size_of::<T>()) }
+    }
+
+    pub fn numbers_mut(&mut self) -> &mut [T] {
+        // SAFETY: as above, and `self` is lent to nobody else.
+        unsafe { slice::from_raw_parts_mut(self.start.cast(), self.octets / size_of::<T>()) }
+    }
+}
+
+impl<T> Drop for Walled<T> {
+    fn drop(&mut self) {
+        // SAFETY: the mapping made by `new`, walls included; no reference to it is left.
+        unsafe { munmap(self.start.sub(WALL).cast(), self.octets + 2 * WALL) };
+    }
+}

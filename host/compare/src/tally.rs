@@ -1,0 +1,63 @@
+//! What was compared, counted.
+
+use crate::making::Kind;
+use std::fmt;
+
+#[derive(Clone, Debug, Default, PartialEq, Eq)]
+pub struct Tally {
+    pub dumps: u64,
+    /// In the order of [`Kind::ALL`].
+    pub kinds: [u64; Kind::ALL.len()],
+    /// Dumps by the number of their fault.
+    pub faults: [u64; 14],
+    pub records: u64,
+    /// Peers and entries.
+    pub items: u64,
+    /// Calls at places and with tables that need not belong together.
+    pub stray: u64,
+    /// Cuts by their answer.
+    pub cuts: [u64; 16],
+    /// Cuts that leave something, but not the dump as it was.
+    pub changed: u64,
+    /// Cuts of cuts.
+    pub twice: u64,
+    /// Cuts of two dumps laid end to end.
+    pub joined: u64,
+}
+
+impl Tally {
+    pub fn kind(&mut self, kind: Kind) {
+        self.kinds[kind as usize] += 1;
+    }
+
+    pub fn add(&mut self, other: &Tally) {
+        fn all<const N: usize>(to: &mut [u64; N], from: &[u64; N]) {
+            to.iter_mut().zip(from).for_each(|(to, from)| *to += from);
+        }
+        all(&mut self.kinds, &other.kinds);
+        all(&mut self.faults, &other.faults);
+        all(&mut self.cuts, &other.cuts);
+        self.dumps += other.dumps;
+        self.records += other.records;
+        self.items += other.items;
+        self.stray += other.stray;
+        self.changed += other.changed;
+        self.twice += other.twice;
+        self.joined += other.joined;
+    }
+}
+
+impl fmt::Display for Tally {
+    fn fmt(&self, f: &mut fmt::Formatter) -> fmt::Result {
+        writeln!(f, "{} dumps", self.dumps)?;
+        for (kind, count) in Kind::ALL.iter().zip(self.kinds) {
+            writeln!(f, "  {kind:?}: {count}")?;
+        }
+        writeln!(f, "dumps by fault, from 0 on: {:?}", self.faults)?;
+        writeln!(f, "{} records, {} peers and entries", self.records, self.items)?;
+        writeln!(f, "{} calls at any place", self.stray)?;
+        writeln!(f, "cuts by answer, from 0 on: {:?}", self.cuts)?;
+        writeln!(f, "{} cuts leave something else than all or nothing", self.changed)?;
+        write!(f, "{} cuts of cuts, {} cuts of two dumps end to end", self.twice, self.joined)
+    }
+}

@@ -1,0 +1,67 @@
+//! A short comparison, and what must have happened in it for it to mean something.
+
+use compare::comparing::compare_dump;
+use compare::cutting::compare_room;
+use compare::desk::{Ask, Desk, Spots};
+use compare::running::compare_seeds;
+use compare::tally::Tally;
+use second::cut_cases::Book;
+use second::vectors::rng::Rng;
+use second::vectors::Suite;
+use std::env;
+
+/// How many dumps are made, if COMPARE_DUMPS does not say it. With fewer than some 3,000 not every
+/// answer is met.
+const DUMPS: u64 = 120_000;
+
+fn dumps() -> u64 {
+    match env::var("COMPARE_DUMPS") {
+        Ok(word) => word.parse().expect("COMPARE_DUMPS is not a number"),
+        Err(_) => DUMPS,
+    }
+}
+
+/// Every answer was met, and neither refusals nor cuts without effect are most of it.
+fn is_telling(tally: &Tally) {
+    assert!(!tally.kinds.contains(&0), "a kind of dump that was not made:\n{tally}");
+    assert!(!tally.faults.contains(&0), "a fault that no dump has:\n{tally}");
+    assert!(!tally.cuts.contains(&0), "an answer that no cut has:\n{tally}");
+    assert!(tally.faults[0] * 3 > tally.dumps, "few dumps are accepted:\n{tally}");
+    assert!(tally.changed * 3 > tally.cuts[0], "few cuts change something:\n{tally}");
+    assert!(tally.twice * 4 > tally.dumps, "few cuts of cuts:\n{tally}");
+    assert!(tally.joined * 4 > tally.dumps, "few dumps end to end:\n{tally}");
+    assert!(tally.records > tally.dumps && tally.items > tally.dumps, "few records:\n{tally}");
+}
+
+#[test]
+fn chance_shows_no_difference() {
+    match compare_seeds(dumps(), 0) {
+        Ok(tally) => is_telling(&tally),
+        Err(difference) => panic!("{difference}"),
+    }
+}
+
+/// The dumps of the second program's suite, each made for one check.
+#[test]
+fn the_suite_shows_no_difference() {
+    let (mut desk, mut tally, mut rng) = (Desk::default(), Tally::default(), Rng::seeded(1));
+    for (name, vector) in Suite::generate().iter() {
+        compare_dump(&vector.octets, &mut rng, &mut desk, &mut tally)
+            .unwrap_or_else(|told| panic!("{name}: {told}"));
+    }
+    assert!(!tally.faults.contains(&0), "{tally}");
+}
+
+/// The second program's book of cuts, and its dumps with other windows and lists too.
+#[test]
+fn the_book_shows_no_difference() {
+    let (mut desk, mut tally, mut rng) = (Desk::default(), Tally::default(), Rng::seeded(2));
+    for (name, case) in Book::generate().iter() {
+        let (from, to, list) = (case.ask.start, case.ask.end, case.ask.list.clone());
+        desk.lay(&case.dump, Spots::default());
+        compare_room(&case.dump, &Ask { from, to, list }, case.room, &mut desk, &mut tally)
+            .and_then(|_| compare_dump(&case.dump, &mut rng, &mut desk, &mut tally))
+            .unwrap_or_else(|told| panic!("{name}: {told}"));
+    }
+    assert!(tally.changed > 0 && tally.cuts[14] > 0 && tally.cuts[15] > 0, "{tally}");
+}
