@@ -2,10 +2,11 @@
 
 use crate::cutting;
 use crate::desk::{Desk, Spots, Told};
-use crate::expected::{self, NONE};
+use crate::expected;
 use crate::lending::Spot;
 use crate::making;
 use crate::tally::Tally;
+use dagsumilat::calls::NONE;
 use second::dump::{Dump, Located};
 use second::record::Body;
 use second::vectors::rng::Rng;
@@ -79,7 +80,7 @@ fn walk(read: &Dump, desk: &mut Desk, tally: &mut Tally) -> Told<()> {
         let words = expected::record(&located.record, at, table);
         same(|| format!("record at={at} table={table}"), desk.record(at, table)?, words)?;
         table = words[2];
-        items(located, words[8] as usize, table, desk, tally)?;
+        items(located, words[8] as usize, desk, tally)?;
         tally.records += 1;
     }
     let at = read.end.place;
@@ -88,13 +89,7 @@ fn walk(read: &Dump, desk: &mut Desk, tally: &mut Tally) -> Told<()> {
 }
 
 /// The peers of a table, or the entries of a RIB record.
-fn items(
-    located: &Located,
-    from: usize,
-    table: u64,
-    desk: &mut Desk,
-    tally: &mut Tally,
-) -> Told<()> {
+fn items(located: &Located, from: usize, desk: &mut Desk, tally: &mut Tally) -> Told<()> {
     let mut at = located.offset + from;
     match &located.record.body {
         Body::PeerTable(peers) => {
@@ -106,7 +101,7 @@ fn items(
         }
         Body::Rib(rib) => {
             for words in expected::entries(rib, at) {
-                same(|| format!("entry at={at} peers={table}"), desk.entry(at, table)?, words)?;
+                same(|| format!("entry at={at}"), desk.entry(at)?, words)?;
                 at = words[1] as usize;
                 tally.items += 1;
             }
@@ -116,18 +111,18 @@ fn items(
     Ok(())
 }
 
-/// Any place, and any number of peers.
+/// Any place, and any table.
 fn stray(dump: &[u8], read: &Dump, rng: &mut Rng, desk: &mut Desk, tally: &mut Tally) -> Told<()> {
     let at = stray_place(dump, read, rng);
-    let peers = match rng.below(4) {
+    let table = match rng.below(4) {
         0 => rng.word(),
         _ => *rng.pick(&[NONE, NONE - 1, 0, 1, 2, 5, 255, 65_535, 65_536]),
     };
     tally.stray += 3;
-    let call = |name: &str| format!("{name} at={at} table or peers={peers}");
-    same(|| call("record"), desk.record(at, peers)?, expected::record_at(dump, at, peers))?;
+    let call = |name: &str| format!("{name} at={at} table={table}");
+    same(|| call("record"), desk.record(at, table)?, expected::record_at(dump, at, table))?;
     same(|| call("peer"), desk.peer(at)?, expected::peer_at(dump, at))?;
-    same(|| call("entry"), desk.entry(at, peers)?, expected::entry_at(dump, at, peers))
+    same(|| call("entry"), desk.entry(at)?, expected::entry_at(dump, at))
 }
 
 /// Inside, about the end, at the end of all offsets, or some octets behind a record's start, where

@@ -2,7 +2,7 @@
 //! stand and whether what was only to be read is as it was.
 
 use crate::lending::{Loan, Spot};
-use crate::proved;
+use dagsumilat::calls;
 
 /// A longer dump is not held against its copy after every call, but by [`Desk::is_unchanged`].
 const SHORT: usize = 4096;
@@ -53,19 +53,19 @@ impl Desk {
     }
 
     pub fn check(&mut self) -> Told<[u64; 3]> {
-        self.call("check", proved::check)
+        self.call("check", calls::check)
     }
 
     pub fn record(&mut self, at: usize, table: u64) -> Told<[u64; 10]> {
-        self.call("record", |dump, answer| proved::record(dump, at, table, answer))
+        self.call("record", |dump, answer| calls::record(dump, at, table, answer))
     }
 
     pub fn peer(&mut self, at: usize) -> Told<[u64; 7]> {
-        self.call("peer", |dump, answer| proved::peer(dump, at, answer))
+        self.call("peer", |dump, answer| calls::peer(dump, at, answer))
     }
 
-    pub fn entry(&mut self, at: usize, peers: u64) -> Told<[u64; 6]> {
-        self.call("entry", |dump, answer| proved::entry(dump, at, peers, answer))
+    pub fn entry(&mut self, at: usize) -> Told<[u64; 6]> {
+        self.call("entry", |dump, answer| calls::entry(dump, at, answer))
     }
 
     /// The answer; what was written is [`Desk::written`].
@@ -75,7 +75,7 @@ impl Desk {
         let (mutes, out) = (self.mutes.lent(), self.out.lent_mut());
         self.answer.clear(3, self.spots.answer);
         let answer = words(self.answer.lent_mut());
-        proved::cut(self.dump.lent(), (ask.from, ask.to), mutes, out, answer);
+        calls::cut(self.dump.lent(), ask.from, ask.to, mutes, out, answer);
         let answer = *answer;
         self.is_fenced("cut")?;
         if self.mutes.lent() != ask.list {

@@ -1,14 +1,12 @@
 //! The second program's answers in the words of include/dagsumilat.h.
 
+use dagsumilat::calls::NONE;
 use second::dump::Dump;
 use second::fault::Fault;
 use second::peer_table::{Peer, PeerTable, TableInForce};
 use second::reader::Reader;
 use second::record::{Body, Record};
 use second::rib::{Entry, Rib};
-
-/// No table in force; no peer AS.
-pub const NONE: u64 = u64::MAX;
 
 pub fn check(dump: &Dump) -> [u64; 3] {
     [dump.end.number().into(), dump.end.place as u64, dump.records.len() as u64]
@@ -117,7 +115,7 @@ fn entry_words(entry: &Entry, at: usize) -> [u64; 6] {
     ]
 }
 
-/// Any place of any dump, and any number of peers.
+/// Any place of any dump, and any table.
 pub fn record_at(dump: &[u8], at: usize, table: u64) -> [u64; 10] {
     let octets = rest(dump, at);
     if octets.is_empty() {
@@ -142,26 +140,28 @@ pub fn peer_at(dump: &[u8], at: usize) -> [u64; 7] {
     }
 }
 
-pub fn entry_at(dump: &[u8], at: usize, peers: u64) -> [u64; 6] {
+/// The second program judges index and attributes where it reads an entry, and the call does not:
+/// so the fields are taken here one by one.
+pub fn entry_at(dump: &[u8], at: usize) -> [u64; 6] {
     let octets = rest(dump, at);
     let mut reader = Reader::over(octets);
-    match Entry::read(&mut reader, TableInForce { peers: peers as usize }) {
-        Ok(entry) => entry_words(&entry, at),
+    match entry_fields(&mut reader) {
+        Ok([index, originated, size]) => {
+            let attributes = at as u64 + 8;
+            [0, attributes + size, index, originated, attributes, size]
+        }
         Err(fault) => {
-            let place = at + entry_fault(fault, octets.len() - reader.left());
+            let place = at + (octets.len() - reader.left());
             [fault.number().into(), place as u64, 0, 0, 0, 0]
         }
     }
 }
 
-/// Which field of an entry has the fault, if this many octets were taken. A field that is not
-/// complete is not taken; the index and the attributes are, before they are judged.
-fn entry_fault(fault: Fault, taken: usize) -> usize {
-    match fault {
-        Fault::NoSuchPeer => 0,
-        Fault::AttributesDoNotTile => 8,
-        _ => taken,
-    }
+/// Peer index, originated time and the size of the attributes.
+fn entry_fields(reader: &mut Reader) -> Result<[u64; 3], Fault> {
+    let (index, originated, size) = (reader.u16()?, reader.u32()?, reader.u16()?);
+    reader.take(size.into())?;
+    Ok([index.into(), originated.into(), size.into()])
 }
 
 fn rest(dump: &[u8], at: usize) -> &[u8] {

@@ -1,6 +1,6 @@
 //! Numbers to be lent, with known numbers before and behind them that a call must leave alone.
 
-use crate::proved::{Number, Walled};
+use crate::walls::{Number, Walled};
 
 /// How many numbers on each side are known.
 const FENCE: usize = 64;

@@ -9,7 +9,7 @@ pub mod desk;
 pub mod expected;
 pub mod lending;
 pub mod making;
-#[allow(unsafe_code)]
-mod proved;
 pub mod running;
 pub mod tally;
+#[allow(unsafe_code)]
+mod walls;

@@ -1,9 +1,11 @@
-//! The calls of include/dagsumilat.h. All unsafe code stands here.
+//! The calls of include/dagsumilat.h, with its words. All unsafe code of this crate stands here.
 //!
 //! What makes each call sound: a slice's pointer is never null and has as many elements behind it
 //! as its length says; `out` and the answer are lent for writing, so that they overlap with
 //! nothing; and the calls promise to write nowhere else, keep no pointer and accept any octets and
 //! numbers.
+//!
+//! The answer is lent, as in C, so that the comparison can put it between walls.
 
 /// No table in force; no peer AS.
 pub const NONE: u64 = u64::MAX;
@@ -29,49 +31,33 @@ extern "C" {
         answer: *mut [u64; 10],
     );
     fn dagsumilat_peer(dump: *const u8, dump_len: usize, at: usize, answer: *mut [u64; 7]);
-    fn dagsumilat_entry(
-        dump: *const u8,
-        dump_len: usize,
-        at: usize,
-        peers: u64,
-        answer: *mut [u64; 6],
-    );
+    fn dagsumilat_entry(dump: *const u8, dump_len: usize, at: usize, answer: *mut [u64; 6]);
 }
 
-pub fn check(dump: &[u8]) -> [u64; 3] {
-    let mut answer = [0; 3];
+pub fn check(dump: &[u8], answer: &mut [u64; 3]) {
     // SAFETY: see the top of this file.
-    unsafe { dagsumilat_check(dump.as_ptr(), dump.len(), &mut answer) };
-    answer
+    unsafe { dagsumilat_check(dump.as_ptr(), dump.len(), answer) }
 }
 
-pub fn cut(dump: &[u8], from: u64, to: u64, mutes: &[u32], out: &mut [u8]) -> [u64; 3] {
-    let mut answer = [0; 3];
+pub fn cut(dump: &[u8], from: u64, to: u64, mutes: &[u32], out: &mut [u8], answer: &mut [u64; 3]) {
     let (octets, size) = (dump.as_ptr(), dump.len());
     let (numbers, count) = (mutes.as_ptr(), mutes.len());
     let (room, most) = (out.as_mut_ptr(), out.len());
     // SAFETY: see the top of this file.
-    unsafe { dagsumilat_cut(octets, size, from, to, numbers, count, room, most, &mut answer) };
-    answer
+    unsafe { dagsumilat_cut(octets, size, from, to, numbers, count, room, most, answer) }
 }
 
-pub fn record(dump: &[u8], at: usize, table: u64) -> [u64; 10] {
-    let mut answer = [0; 10];
+pub fn record(dump: &[u8], at: usize, table: u64, answer: &mut [u64; 10]) {
     // SAFETY: see the top of this file.
-    unsafe { dagsumilat_record(dump.as_ptr(), dump.len(), at, table, &mut answer) };
-    answer
+    unsafe { dagsumilat_record(dump.as_ptr(), dump.len(), at, table, answer) }
 }
 
-pub fn peer(dump: &[u8], at: usize) -> [u64; 7] {
-    let mut answer = [0; 7];
+pub fn peer(dump: &[u8], at: usize, answer: &mut [u64; 7]) {
     // SAFETY: see the top of this file.
-    unsafe { dagsumilat_peer(dump.as_ptr(), dump.len(), at, &mut answer) };
-    answer
+    unsafe { dagsumilat_peer(dump.as_ptr(), dump.len(), at, answer) }
 }
 
-pub fn entry(dump: &[u8], at: usize, peers: u64) -> [u64; 6] {
-    let mut answer = [0; 6];
+pub fn entry(dump: &[u8], at: usize, answer: &mut [u64; 6]) {
     // SAFETY: see the top of this file.
-    unsafe { dagsumilat_entry(dump.as_ptr(), dump.len(), at, peers, &mut answer) };
-    answer
+    unsafe { dagsumilat_entry(dump.as_ptr(), dump.len(), at, answer) }
 }

@@ -1,6 +1,6 @@
 //! The peers of a peer table and the entries of a RIB record.
 
-use crate::calls;
+use crate::{answered, calls};
 use std::net::{IpAddr, Ipv4Addr, Ipv6Addr};
 
 /// A peer of a peer table.
@@ -33,8 +33,8 @@ impl Iterator for Peers<'_> {
     fn next(&mut self) -> Option<Peer> {
         self.left = self.left.checked_sub(1)?;
         let [fault, next, as_number, type_octet, bgp_id, from, size] =
-            calls::peer(self.dump, self.at);
-        assert_eq!(fault, 0, "a good table's peers are good");
+            answered(|answer| calls::peer(self.dump, self.at, answer));
+        assert_eq!(fault, 0, "a good table's peers are whole");
         self.at = next as usize;
         Some(Peer {
             as_number: as_number as u32,
@@ -78,12 +78,11 @@ pub struct Entries<'a> {
     dump: &'a [u8],
     at: usize,
     left: usize,
-    table: u64,
 }
 
 impl<'a> Entries<'a> {
-    pub(crate) fn new(dump: &'a [u8], at: usize, count: usize, table: u64) -> Entries<'a> {
-        Entries { dump, at, left: count, table }
+    pub(crate) fn new(dump: &'a [u8], at: usize, count: usize) -> Entries<'a> {
+        Entries { dump, at, left: count }
     }
 }
 
@@ -93,8 +92,8 @@ impl<'a> Iterator for Entries<'a> {
     fn next(&mut self) -> Option<Entry<'a>> {
         self.left = self.left.checked_sub(1)?;
         let [fault, next, peer_index, originated, from, size] =
-            calls::entry(self.dump, self.at, self.table);
-        assert_eq!(fault, 0, "a good RIB record's entries are good");
+            answered(|answer| calls::entry(self.dump, self.at, answer));
+        assert_eq!(fault, 0, "a good RIB record's entries are whole");
         self.at = next as usize;
         Some(Entry {
             peer_index: peer_index as u16,

@@ -20,7 +20,8 @@
 #![deny(unsafe_code)]
 
 #[allow(unsafe_code)]
-mod calls;
+#[doc(hidden)]
+pub mod calls;
 mod fault;
 mod items;
 mod record;
@@ -42,7 +43,7 @@ pub struct Check {
 
 /// Checks a whole dump.
 pub fn check(dump: &[u8]) -> Check {
-    let [number, place, records] = calls::check(dump);
+    let [number, place, records] = answered(|answer| calls::check(dump, answer));
     Check { records, refusal: Refusal::of_answer(number, place) }
 }
 
@@ -84,9 +85,17 @@ pub fn cut_into(
     mutes: &[u32],
     out: &mut [u8],
 ) -> Result<usize, Refusal> {
-    let [number, place, size] = calls::cut(dump, window.from, window.to, mutes, out);
+    let Window { from, to } = window;
+    let [number, place, size] = answered(|answer| calls::cut(dump, from, to, mutes, out, answer));
     match Refusal::of_answer(number, place) {
         Some(refusal) => Err(refusal),
         None => Ok(size as usize),
     }
+}
+
+/// The answer of a call that is lent a place for it.
+fn answered<const N: usize>(call: impl FnOnce(&mut [u64; N])) -> [u64; N] {
+    let mut answer = [0; N];
+    call(&mut answer);
+    answer
 }

@@ -94,6 +94,6 @@ impl<'a> Record<'a> {
     /// The entries of a RIB record; of any other record none.
     pub fn entries(&self) -> Entries<'a> {
         let count = if self.kind() == Kind::Rib { self.count } else { 0 };
-        Entries::new(self.dump, self.at + self.items, count, self.table)
+        Entries::new(self.dump, self.at + self.items, count)
     }
 }

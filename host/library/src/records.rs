@@ -1,8 +1,8 @@
 //! From record to record through a dump.
 
-use crate::calls;
 use crate::fault::Refusal;
 use crate::record::Record;
+use crate::{answered, calls};
 
 /// The records of a dump, then, if the dump is not good, its fault.
 #[derive(Clone, Debug)]
@@ -45,7 +45,7 @@ impl<'a> Iterator for Records<'a> {
         if at >= self.dump.len() {
             return None;
         }
-        let answer = calls::record(self.dump, at, self.table);
+        let answer = answered(|answer| calls::record(self.dump, at, self.table, answer));
         if let Some(refusal) = Refusal::of_answer(answer[0], answer[1]) {
             // Nothing behind a fault is a record.
             self.at = self.dump.len();

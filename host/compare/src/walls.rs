@@ -1,38 +1,11 @@
-//! The proved library's calls, and memory between walls: pages that nobody may read or write.
+//! Memory between walls: pages that nobody may read or write. All unsafe code of this crate stands
+//! here.
 
 use std::ffi::{c_int, c_void};
 use std::marker::PhantomData;
 use std::{ptr, slice};
 
 extern "C" {
-    fn dagsumilat_check(dump: *const u8, dump_len: usize, answer: *mut [u64; 3]);
-    fn dagsumilat_cut(
-        dump: *const u8,
-        dump_len: usize,
-        from: u64,
-        to: u64,
-        mutes: *const u32,
-        mutes_len: usize,
-        out: *mut u8,
-        out_len: usize,
-        answer: *mut [u64; 3],
-    );
-    fn dagsumilat_record(
-        dump: *const u8,
-        dump_len: usize,
-        at: usize,
-        table: u64,
-        answer: *mut [u64; 10],
-    );
-    fn dagsumilat_peer(dump: *const u8, dump_len: usize, at: usize, answer: *mut [u64; 7]);
-    fn dagsumilat_entry(
-        dump: *const u8,
-        dump_len: usize,
-        at: usize,
-        peers: u64,
-        answer: *mut [u64; 6],
-    );
-
     fn mmap(
         address: *mut c_void,
         size: usize,
@@ -43,38 +16,6 @@ extern "C" {
     ) -> *mut c_void;
     fn mprotect(address: *mut c_void, size: usize, protection: c_int) -> c_int;
     fn munmap(address: *mut c_void, size: usize) -> c_int;
-}
-
-// SAFETY of the calls: references are lent to them, so the memory is there, and what they write
-// to is lent to nobody else. That they keep to it is what is tried here.
-
-pub fn check(dump: &[u8], answer: &mut [u64; 3]) {
-    unsafe { dagsumilat_check(dump.as_ptr(), dump.len(), answer) }
-}
-
-pub fn cut(
-    dump: &[u8],
-    (from, to): (u64, u64),
-    mutes: &[u32],
-    out: &mut [u8],
-    answer: &mut [u64; 3],
-) {
-    let (dump, dump_len) = (dump.as_ptr(), dump.len());
-    let (mutes, mutes_len) = (mutes.as_ptr(), mutes.len());
-    let (out, out_len) = (out.as_mut_ptr(), out.len());
-    unsafe { dagsumilat_cut(dump, dump_len, from, to, mutes, mutes_len, out, out_len, answer) }
-}
-
-pub fn record(dump: &[u8], at: usize, table: u64, answer: &mut [u64; 10]) {
-    unsafe { dagsumilat_record(dump.as_ptr(), dump.len(), at, table, answer) }
-}
-
-pub fn peer(dump: &[u8], at: usize, answer: &mut [u64; 7]) {
-    unsafe { dagsumilat_peer(dump.as_ptr(), dump.len(), at, answer) }
-}
-
-pub fn entry(dump: &[u8], at: usize, peers: u64, answer: &mut [u64; 6]) {
-    unsafe { dagsumilat_entry(dump.as_ptr(), dump.len(), at, peers, answer) }
 }
 
 const NOTHING: c_int = 0;
