@@ -1,4 +1,5 @@
-//! The calls of include/dagsumilat.h, with its words. All unsafe code of this crate stands here.
+//! The calls of include/dagsumilat.h, with its words, and one of the system's. All unsafe code of
+//! this crate stands here.
 //!
 //! What makes each call sound: a slice's pointer is never null and has as many elements behind it
 //! as its length says; `out` and the answer are lent for writing, so that they overlap with
@@ -61,3 +62,27 @@ pub fn entry(dump: &[u8], at: usize, answer: &mut [u64; 6]) {
     // SAFETY: see the top of this file.
     unsafe { dagsumilat_entry(dump.as_ptr(), dump.len(), at, answer) }
 }
+
+/// See [`crate::in_large_pages`].
+#[cfg(target_os = "linux")]
+pub fn advise_large_pages<T>(memory: &[T]) {
+    use std::ffi::{c_int, c_void};
+
+    extern "C" {
+        fn madvise(address: *mut c_void, size: usize, advice: c_int) -> c_int;
+    }
+    /// A multiple of every page size in use.
+    const PAGE: usize = 65_536;
+    const HUGE_PAGE: c_int = 14;
+
+    let start = memory.as_ptr() as usize;
+    let (first, end) = (start.next_multiple_of(PAGE), start + size_of_val(memory));
+    if let Some(size) = end.checked_sub(first) {
+        // SAFETY: these octets are the caller's, and this advice changes neither them nor who may
+        // read and write them. If it is not taken, nothing is lost.
+        unsafe { madvise(first as *mut c_void, size, HUGE_PAGE) };
+    }
+}
+
+#[cfg(not(target_os = "linux"))]
+pub fn advise_large_pages<T>(_memory: &[T]) {}

@@ -60,6 +60,7 @@ pub struct Window {
 /// some 300 KB of stack.
 pub fn cut(dump: &[u8], window: Window, mutes: &[u32]) -> Result<Vec<u8>, Refusal> {
     let mut out = vec![0; dump.len()];
+    in_large_pages(&out);
     let size = cut_into(dump, window, mutes, &mut out)?;
     out.truncate(size);
     Ok(out)
@@ -91,6 +92,13 @@ pub fn cut_into(
         Some(refusal) => Err(refusal),
         None => Ok(size as usize),
     }
+}
+
+/// Asks the system to hold this memory in large pages, best before anything is written to it: for a
+/// large dump most of the time of reading it goes into getting its memory page by page. Changes
+/// nothing else; some systems do not listen.
+pub fn in_large_pages<T>(memory: &[T]) {
+    calls::advise_large_pages(memory);
 }
 
 /// The answer of a call that is lent a place for it.

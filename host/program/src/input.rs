@@ -65,6 +65,7 @@ impl Source {
         progress.stage("reading", size);
         let mut octets = Vec::new();
         octets.try_reserve_exact(usize::try_from(size.unwrap_or(0)).unwrap_or(usize::MAX))?;
+        dagsumilat::in_large_pages(octets.spare_capacity_mut());
         while file.by_ref().take(CHUNK).read_to_end(&mut octets)? > 0 {
             progress.at(octets.len() as u64);
         }
