@@ -5,6 +5,7 @@ use crate::stop::Stop;
 use std::ffi::OsStr;
 use std::fs::{self, File, Metadata};
 use std::io::{self, ErrorKind, Write};
+use std::os::fd::AsFd;
 use std::os::unix::fs::MetadataExt;
 use std::path::{Path, PathBuf};
 use std::process;
@@ -37,7 +38,7 @@ impl Target {
     /// file that is there already, or something that is no file.
     pub fn refuse_early(&self, inputs: &[Metadata]) -> Result<(), Stop> {
         let Target::File { path, force } = self else {
-            return Ok(());
+            return refuse_standard(inputs).map_err(|error| Stop::writing(self.name(), &error));
         };
         if let Ok(found) = path.metadata() {
             refuse_found(&found, inputs).map_err(|words| Stop::writing(path, &words))?;
@@ -66,11 +67,24 @@ impl Target {
 }
 
 const EXISTS: &str = "it exists already; --force replaces it";
+const INPUT: &str = "it is an input of this cut";
+
+fn is_among(found: &Metadata, inputs: &[Metadata]) -> bool {
+    inputs.iter().any(|input| (input.dev(), input.ino()) == (found.dev(), found.ino()))
+}
+
+/// Standard output may lead to a file, too; a terminal may be both.
+fn refuse_standard(inputs: &[Metadata]) -> io::Result<()> {
+    let found = File::from(io::stdout().as_fd().try_clone_to_owned()?).metadata()?;
+    match found.is_file() && is_among(&found, inputs) {
+        true => Err(io::Error::other(INPUT)),
+        false => Ok(()),
+    }
+}
 
 fn refuse_found(found: &Metadata, inputs: &[Metadata]) -> Result<(), &'static str> {
-    let same = |input: &Metadata| (input.dev(), input.ino()) == (found.dev(), found.ino());
-    if inputs.iter().any(same) {
-        Err("it is an input of this cut")
+    if is_among(found, inputs) {
+        Err(INPUT)
     } else if !found.is_file() {
         // A device would be replaced, not written to.
         Err("it is no regular file; - is standard output")

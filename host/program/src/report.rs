@@ -51,7 +51,14 @@ impl Outcome<'_> {
         for (name, old, new) in rows {
             let _ = writeln!(text, "  {name:<16}{new:>14}{:>14}", old - new);
         }
+        let (listed, nowhere) = (self.mutes.len(), self.nowhere().count());
+        let _ = writeln!(text, "  AS numbers to mute: {listed}, in no table or record: {nowhere}");
         text
+    }
+
+    /// Muted numbers that hit nobody.
+    fn nowhere(&self) -> impl Iterator<Item = u32> + '_ {
+        self.mutes.iter().copied().filter(|number| !self.before.by_as.contains_key(number))
     }
 
     fn left(&self) -> String {
@@ -72,18 +79,27 @@ impl Outcome<'_> {
 
     /// Where a mute hit nobody, and where somebody muted may still be seen under another number.
     pub fn warnings(&self) -> Vec<String> {
-        let mut warnings = Vec::new();
-        for number in self.mutes {
-            if !self.before.by_as.contains_key(number) {
-                warnings.push(format!(
-                    "AS{number} was to be muted and is nobody's peer AS in the dump: \
-                     a typing error would leave somebody in the clip"
-                ));
-            }
-            warnings.extend(self.shortened(*number));
-        }
+        let nowhere = self.nowhere().map(|number| {
+            format!(
+                "AS{number} was to be muted and is nobody's peer AS in the dump: \
+                 a typing error would leave somebody in the clip"
+            )
+        });
+        // A long list of those must not hide the others, so they come first.
+        let mut warnings: Vec<String> = nowhere.collect();
+        warnings.extend(self.mutes.iter().filter_map(|number| self.shortened(*number)));
         warnings.extend(self.stand_ins());
+        warnings.extend(self.emptied());
         warnings
+    }
+
+    /// A slip in a date leaves a clip that looks well.
+    fn emptied(&self) -> Option<String> {
+        let (first, last) = self.before.span.filter(|_| self.after.span.is_none())?;
+        let (first, last) = (moment::shown(first), moment::shown(last));
+        Some(format!(
+            "no record but peer tables is left; the others of the dump are from {first} to {last}"
+        ))
     }
 
     /// Some producers write a 4-octet AS cut to 16 bits in records of 2 octets. A muted number that

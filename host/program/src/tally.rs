@@ -28,6 +28,8 @@ pub struct Tally {
     pub peers: u64,
     pub entries: u64,
     pub by_as: HashMap<u32, Count>,
+    /// The earliest and the latest time of a record that is no peer table.
+    pub span: Option<(u64, u64)>,
     /// What ended the count, if the dump is not good.
     pub refusal: Option<Refusal>,
 }
@@ -85,10 +87,13 @@ impl Counting {
         let kind = record.kind();
         self.tally.kinds[kind as usize] += 1;
         match kind {
-            Kind::PeerTable => self.put_in_force(record),
+            Kind::PeerTable => return self.put_in_force(record),
             Kind::Rib => self.add_entries(record),
             _ => record.peer_as().into_iter().for_each(|number| self.add_record(number)),
         }
+        let time = record.time;
+        let (first, last) = self.tally.span.unwrap_or((time, time));
+        self.tally.span = Some((first.min(time), last.max(time)));
     }
 
     fn put_in_force(&mut self, record: &Record) {

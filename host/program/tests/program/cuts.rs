@@ -80,6 +80,7 @@ fn kept_and_gone_are_told() {
         assert_eq!(row(name), [kept, gone], "{name}");
     }
     run.told("5 of 9 records kept")
+        .told("AS numbers to mute: 1, in no table or record: 0")
         .told("AS10 (peers 1, entries 1, records 2)")
         .silent_about("AS20");
 }
@@ -94,10 +95,27 @@ fn a_long_list_of_those_left_is_cut_short() {
 
 #[test]
 fn a_mute_that_hits_nobody_warns() {
-    let octets = [table(1, &[10]), change(1, 20), table_dump(1, 30, &[])].concat();
+    let octets = [table(1, &[10]), change(1, 20), table_dump(1, 30, &[]), change(1, 1)].concat();
     muted(&octets, &[10, 20, 30]).silent_about("WARNING");
     let run = muted(&octets, &[10, 11, 21]);
-    run.told("WARNING: AS11 ").told("WARNING: AS21 ").silent_about("WARNING: AS10");
+    run.told("WARNING: AS11 ")
+        .told("WARNING: AS21 ")
+        .silent_about("WARNING: AS10")
+        .told("AS numbers to mute: 3, in no table or record: 2");
+}
+
+#[test]
+fn a_clip_with_nothing_in_it_warns() {
+    let octets = [table(1, &[10]), rib(5, &[0]), change(9, 20)].concat();
+    let window = |from: &str, to: &str| cut_piped(&octets, &["--from", from, "--to", to]);
+    let run = window("6.0", "9.0");
+    assert_eq!(run.out, table(1, &[10]));
+    run.told("from 1970-01-01T00:00:05.000000Z to 1970-01-01T00:00:09.000000Z");
+    window("6.0", "9.1").silent_about("WARNING");
+    muted(&octets, &[10, 20]).told("WARNING: no record but peer tables is left");
+    muted(&change(1, 20), &[20]).told("WARNING: no record");
+    muted(&table(1, &[10]), &[10]).silent_about("WARNING");
+    muted(&[], &[]).silent_about("WARNING");
 }
 
 #[test]
@@ -105,7 +123,7 @@ fn numbers_that_may_hide_somebody_warn() {
     let short = 130_537 & 0xffff;
     let octets = [table(1, &[130_537, 64_500]), change(1, short as u16)].concat();
     muted(&octets, &[130_537]).told("AS65001 is still in the clip").told("muted AS130537");
-    muted(&octets, &[130_537, short]).silent_about("WARNING");
+    muted(&octets, &[130_537, short]).silent_about("16 bits");
     muted(&octets, &[]).silent_about("WARNING");
     muted(&octets, &[64_500]).silent_about("WARNING");
 
@@ -115,7 +133,7 @@ fn numbers_that_may_hide_somebody_warn() {
     let stand_in = [change(1, 23_456), table(1, &[70_000, 10])].concat();
     muted(&stand_in, &[10]).told("WARNING: AS23456").told("anybody with a 4-octet AS");
     muted(&stand_in, &[70_000]).told("WARNING: AS23456").told("a muted one too");
-    muted(&stand_in, &[23_456]).silent_about("WARNING");
+    muted(&stand_in, &[23_456]).silent_about("AS23456");
 }
 
 #[test]

@@ -42,6 +42,11 @@ fn an_input_is_never_written_over() {
     let mut piped = command(&[&["cut", "-", "-o", &file, "--force"], &ALL[..]].concat());
     piped.stdin(File::open(&file).unwrap());
     finish(piped).ended(2).told("it is an input");
+    let mut appended = command(&[&["cut", &file, "-o", "-"], &ALL[..]].concat());
+    appended.stdout(File::options().append(true).open(&file).unwrap());
+    let ended = appended.output().unwrap();
+    assert_eq!(ended.status.code(), Some(2));
+    assert!(String::from_utf8_lossy(&ended.stderr).contains("it is an input"));
     assert_eq!(folder.read("dump"), sample());
     assert_eq!(folder.read("list"), b"64500\n");
     assert_eq!(folder.names(), ["dump", "hard", "inner", "list", "soft"]);
