@@ -1,4 +1,5 @@
-//! Times the proved check and cut of a dump against the same in plain Rust.
+//! Times the proved check and cut of a dump against the same in plain Rust; or, given a folder, writes
+//! the dumps and their lists there, for other programs to be timed with.
 
 mod checking;
 mod cutting;
@@ -12,7 +13,8 @@ mod timing;
 
 use cutting::Ask;
 use made::Made;
-use std::env;
+use std::path::Path;
+use std::{env, fs, io};
 
 const MEGABYTES: usize = 100;
 
@@ -46,12 +48,28 @@ fn measure_table(size: usize, peers: usize) {
     );
 }
 
+/// A dump, and the AS numbers to be muted, one a line.
+fn write(folder: &Path, name: &str, made: &Made) -> io::Result<()> {
+    let list: Vec<String> = whole(made).list.iter().map(u32::to_string).collect();
+    fs::write(folder.join(format!("{name}.mrt")), &made.dump)?;
+    fs::write(folder.join(format!("{name}.list")), list.join("\n"))
+}
+
+fn write_all(folder: &Path, size: usize) -> io::Result<()> {
+    write(folder, "updates", &made::updates(size))?;
+    write(folder, "table-30", &made::table(size, 30))?;
+    write(folder, "table-20000", &made::table(size, 20_000))
+}
+
 fn main() {
     let megabytes = match env::args().nth(1) {
-        Some(word) => word.parse().expect("usage: bench [MEGABYTES]"),
+        Some(word) => word.parse().expect("usage: bench [MEGABYTES [FOLDER]]"),
         None => MEGABYTES,
     };
     let size = megabytes * 1_000_000;
+    if let Some(folder) = env::args_os().nth(2) {
+        return write_all(Path::new(&folder), size).expect("the folder takes no files");
+    }
     checking::compare();
     cutting::compare();
     measure_updates(size);
