@@ -9,6 +9,7 @@ use crate::report::Outcome;
 use crate::stop::{tell, Stop};
 use crate::tally::Tally;
 use dagsumilat::Window;
+use std::hint::black_box;
 use std::thread;
 
 pub fn cut(order: &CutOrder) -> Result<(), Stop> {
@@ -65,7 +66,19 @@ fn all_mutes(order: &CutOrder) -> Result<Vec<u32>, Stop> {
     Ok(mutes)
 }
 
+/// Where memory is short, the library's own buffer would end the program without words.
+fn refuse_size(size: usize) -> Result<(), Stop> {
+    let mut room = Vec::<u8>::new();
+    let got = room.try_reserve_exact(size);
+    // Else the compiler may leave out what nobody uses.
+    black_box(&room);
+    got.map_err(|error| {
+        Stop::Trouble(format!("a clip may need as much memory as its dump, {size} octets: {error}"))
+    })
+}
+
 fn cut_and_count(order: &CutOrder, dump: &[u8], mutes: &[u32]) -> Result<(Tally, Vec<u8>), Stop> {
+    refuse_size(dump.len())?;
     let (before, clip) = thread::scope(|scope| {
         let counting = scope.spawn(|| Tally::of(dump));
         let clip = dagsumilat::cut(dump, order.window, mutes);
