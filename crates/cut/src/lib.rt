@@ -18,6 +18,7 @@ ghost use Rattle.cut.specs.State.{mrt, stateOf, tableOf, shownAt, recAt}
 ghost use Rattle.cut.specs.Left.{leftOctets, Sound, Small, sizeOf, frontLeft, PeersOf, EntriesOf};
 ghost use Rattle.cut.specs.Stands.{InStep, Stands, Measures};
 ghost use Rattle.cut.specs.declared.Left.the-variants.{Gone, Whole};
+use blocks::copy_blocks;
 use copy::copy;
 use cut_items::fill_news;
 use cut_items::listed;
@@ -236,7 +237,7 @@ fn put_left(
     match l {
         Left::Gone => put,
         Left::Whole(size) => {
-            copy(d, at, size, out, put);
+            copy_blocks(d, at, size, out, put);
             put + size
         }
         Left::Peers(i) => {
