@@ -54,6 +54,11 @@ size-is ms news d at (Whole n) h = sym (length-part d at n h)
 size-is ms news d at (Peers i) h = let e = length-items d at i (peersLeft ms d i) (h .1) in omega (arith, e)
 size-is ms news d at (Entries i) h = let e = length-items d at i (entriesLeft news d i) (h .2) in omega (arith, e)
 
+-- what is left, as it was measured
+pub size-here : {from to : ℕ} {ms news d : List ℕ} {at : ℕ} {f : InForce} (h : Here from to ms news d at f) (l : Left) → Is h l → (n : ℕ) → n ≡ sizeOf l
+    → n ≡ length (writes (cutOne mrt (cutting from to ms) (stateOf d f) (recAt d f at)))
+size-here h l is n e = e ∙ size-is _ _ _ _ l (is .1) ∙ ap length (is .0)
+
 -- ---- before the first record, no table is in force
 
 abbrev pub none : InForce
@@ -138,23 +143,18 @@ module _ {from to : ℕ} {ms d news₀ news : List ℕ} {at total : ℕ} {f : In
         let q = over-record (tableOf f) at item u (shownAt d f at) (sym taken ∙ g) in
         (record { octets = oc; before = some (λ z. omega (arith, ap stepTag g)); good = q .0; step = i .step }, q .1)
 
-  module _ (h : Here from to ms news d at f) (l : Left) (is : Is h l) where
-    size-left : sizeOf l ≡ length (writes (cutOne mrt (cutting from to ms) (stateOf d f) (recAt d f at)))
-    size-left = size-is ms news d at l (is .1) ∙ ap length (is .0)
-
-    pub first-total : total + sizeOf l ≤ length d
-    first-total =
-        let b = check-total mrt (cutting from to ms) d oc (stateOf d f) at total (i .measured) (h .before) (shown-here h .reads) in
-        omega (arith, b, size-left)
+  module _ (h : Here from to ms news d at f) where
+    pub first-total : total + length (writes (cutOne mrt (cutting from to ms) (stateOf d f) (recAt d f at))) ≤ length d
+    first-total = check-total mrt (cutting from to ms) d oc (stateOf d f) at total (i .measured) (h .before) (shown-here h .reads)
 
     pub first-turn : (g : InForce) (more : List ℕ) (n k : ℕ) → length more ≡ length news → stateOf d g ≡ next mrt (recAt d f at) (stateOf d f) → InStep ms more d g
-        → n ≡ at + place (shownAt d f at) → k ≡ sizeOf l → First from to ms d news₀ more n (total + k) g
+        → n ≡ at + place (shownAt d f at) → k ≡ length (writes (cutOne mrt (cutting from to ms) (stateOf d f) (recAt d f at))) → First from to ms d news₀ more n (total + k) g
     first-turn g more n k a b c en ek =
         rw en
         record {
           long = a ∙ i .long;
           step = c;
-          measured = check-turn mrt (cutting from to ms) d oc (stateOf d f) at total (i .measured) (h .before) (stateOf d g) (place (shownAt d f at)) k (shown-here h .reads) (shown-here h .ends) (ek ∙ size-left) b;
+          measured = check-turn mrt (cutting from to ms) d oc (stateOf d f) at total (i .measured) (h .before) (stateOf d g) (place (shownAt d f at)) k (shown-here h .reads) (shown-here h .ends) ek b;
         }
 
 -- ---- the second pass

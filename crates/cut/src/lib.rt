@@ -18,6 +18,7 @@ ghost use Rattle.cut.specs.State.{mrt, stateOf, tableOf, shownAt, recAt}
 ghost use Rattle.cut.specs.Left.{leftOctets, Sound, Small, sizeOf, frontLeft, PeersOf, EntriesOf};
 ghost use Rattle.cut.specs.Stands.{InStep, Stands, Measures};
 ghost use Rattle.cut.specs.declared.Left.the-variants.{Gone, Whole};
+use blocks::copy_blocks;
 use copy::copy;
 use cut_items::fill_news;
 use cut_items::listed;
@@ -236,7 +237,7 @@ fn put_left(
     match l {
         Left::Gone => put,
         Left::Whole(size) => {
-            copy(d, at, size, out, put);
+            copy_blocks(d, at, size, out, put);
             put + size
         }
         Left::Peers(i) => {
@@ -280,6 +281,46 @@ fn table_behind(
     }
 }
 
+fn size_if(keep: bool, size: usize) -> usize
+    ensures { λ r. ⌜ r ≡ sizeOf (cond keep (Whole size) Gone) ⌝ }
+{
+    if keep {
+        return size;
+    }
+    0
+}
+
+// How many octets are left of the record of `size` octets that stands at `at`; o is its outline. Said beside left_of, so that each of
+// the two has one caller, into which the compiler puts it.
+fn size_left(
+    d: &[u8],
+    at: usize,
+    size: usize,
+    o: Outline,
+    f: InForce,
+    start: u64,
+    end: u64,
+    mutes: &[u32],
+    news: &[u32],
+) -> usize
+    requires { ⌜ Stands (now mutes) (now news) (now d) at f o ⌝ }
+    requires { ⌜ size ≡ place (shownAt (now d) f at) ⌝ }
+    ensures { λ r. ⌜ r ≡ length (writes (cutOne mrt (cutting start end (now (mutes .entry))) (stateOf (now (d .entry)) f) (recAt (now (d .entry)) f at))) ⌝ }
+{
+    let peers = f.count;
+    match o {
+        Outline::Unread(time) => size_if(inside(time, start, end), size),
+        Outline::Peer(time, peer) => size_if(stays(time, peer, start, end, mutes), size),
+        Outline::Table(off, count) => size_of(peers_of(d, at, off, count, mutes)),
+        Outline::Rib(time, off, count) => {
+            if inside(time, start, end) {
+                return size_of(entries_of(d, at, off, count, peers, news));
+            }
+            0
+        }
+    }
+}
+
 // The first pass: checks the dump and measures what is left of it.
 fn measure(d: &[u8], start: u64, end: u64, mutes: &[u32], news: &mut [u32]) -> Measured
     requires { ⌜ length (now news) ≡ 65536 ⌝ }
@@ -303,7 +344,7 @@ fn measure(d: &[u8], start: u64, end: u64, mutes: &[u32], news: &mut [u32]) -> M
             Step::Record(i, _) => {
                 let next = i.next;
                 let o = outline_at(d, at, told(f));
-                total += size_of(left_of(d, at, next - at, o, f, start, end, mutes, news));
+                total += size_left(d, at, next - at, o, f, start, end, mutes, news);
                 f = table_behind(d, at, o, f, mutes, news);
                 at = next;
             }

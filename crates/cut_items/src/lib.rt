@@ -15,6 +15,7 @@ ghost use Rattle.cutting.specs.Cut.{mem, indexOf, renumber};
 ghost use Rattle.copy.specs.Over.{over};
 ghost use Rattle.moving.specs.Found.{Lie, items, Lies, item};
 ghost use Rattle.moving.specs.Moved.{moved, newFrom};
+use blocks::copy_blocks;
 use copy::copy;
 use num::number;
 use num::put_number;
@@ -141,7 +142,7 @@ fn put_entry(
         return put;
     }
     put_number(out, put, 2, k as u64);
-    copy(m, at + 2, size - 2, out, put + 2);
+    copy_blocks(m, at + 2, size - 2, out, put + 2);
     put + size
 }
 

@@ -1,4 +1,5 @@
 -- What a cut must know of a record that was shown. Assumes nothing.
+use mathlib.Core.Bool.{Bool, cond, _||_}
 use mathlib.Core.List.{List}
 use Prim.Native.Nat.{ℕ, _+_, _*_}
 use lib.Dec.{eqb}
@@ -24,3 +25,11 @@ outlineOf (shown.Message h s b k) = Peer (time h) (s .peer)
 -- the time in the octets of a record with so many of microseconds
 unfoldable pub timeIn : List ℕ → (micro : ℕ) → ℕ
 timeIn m micro = numAt m 0 4 * 1000000 + choose (eqb micro 0) 0 (numAt m 12 micro)
+
+-- types 16 and 17: the AS numbers' octets, by the Subtype
+unfoldable pub widthOf : (sub : ℕ) → ℕ
+widthOf sub = choose (eqb sub 4 || eqb sub 5 || eqb sub 7) 4 2
+
+-- and the microseconds', by whether the type is 17
+abbrev pub microOf : Bool → ℕ
+microOf late = cond late 4 0

@@ -5,7 +5,7 @@ use lib.ListN.{length}
 use denote.Ref.{now}
 use Rattle.form.specs.Octets.{Octets}
 use Rattle.form.proofs.Octets.{octets-of}
-use Rattle.cut.proofs.Pass.{small-of, goes-on, good-told, stands-told, First, first-starts, first-end, first-fault, first-here, first-total, first-turn}
+use Rattle.cut.proofs.Pass.{goes-on, good-told, stands-told, First, first-starts, first-end, first-fault, first-here, first-total, first-turn}
 use borrow.Author.Needs.{needs}
 use Rattle.cut.proofs.measure.Statement.{statement}
 use Rattle.cut.proofs.measure.Tie as tie
@@ -55,29 +55,26 @@ told-requires-2 c κs = search needs
 outline-at-requires : tie.Need-outline-at-requires Inv-loop μ-loop
 outline-at-requires c κs = let h = first-here (octets (c .before .before .before .before .before .before .before .before .before)) (c .before .before .before .before .before .before .loop .inv) _ _ (c .before .before .before .before .before .told .ensures) (c .before .before .before .before .step-at .ensures) _ _ (c .before .before .i .given .1) .0 in (h .before, good-told h _ (c .told2 .ensures))
 
-sub-left-of : tie.Need-sub-left-of Inv-loop μ-loop
-sub-left-of c = let n = first-here (octets (c .before .before .before .before .before .before .before .before .before .before)) (c .before .before .before .before .before .before .before .loop .inv) _ _ (c .before .before .before .before .before .before .told .ensures) (c .before .before .before .before .before .step-at .ensures) _ _ (c .before .before .before .i .given .1) .1 in search needs
+sub-size-left : tie.Need-sub-size-left Inv-loop μ-loop
+sub-size-left c = let n = first-here (octets (c .before .before .before .before .before .before .before .before .before .before)) (c .before .before .before .before .before .before .before .loop .inv) _ _ (c .before .before .before .before .before .before .told .ensures) (c .before .before .before .before .before .step-at .ensures) _ _ (c .before .before .before .i .given .1) .1 in search needs
 
-left-of-requires : tie.Need-left-of-requires Inv-loop μ-loop
-left-of-requires c κs = let h = first-here (octets (c .before .before .before .before .before .before .before .before .before .before .before)) (c .before .before .before .before .before .before .before .before .loop .inv) _ _ (c .before .before .before .before .before .before .before .told .ensures) (c .before .before .before .before .before .before .step-at .ensures) _ _ (c .before .before .before .before .i .given .1) in (stands-told (h .0) _ (c .before .before .told2 .ensures) _ (c .before .outline-at .ensures), omega (arith, h .1))
-
-size-of-requires : tie.Need-size-of-requires Inv-loop μ-loop
-size-of-requires c κs = small-of _ _ _ _ (c .left-of .result) (c .left-of .ensures .1)
+size-left-requires : tie.Need-size-left-requires Inv-loop μ-loop
+size-left-requires c κs = let h = first-here (octets (c .before .before .before .before .before .before .before .before .before .before .before)) (c .before .before .before .before .before .before .before .before .loop .inv) _ _ (c .before .before .before .before .before .before .before .told .ensures) (c .before .before .before .before .before .before .step-at .ensures) _ _ (c .before .before .before .before .i .given .1) in (stands-told (h .0) _ (c .before .before .told2 .ensures) _ (c .before .outline-at .ensures), omega (arith, h .1))
 
 add-total : tie.Need-add-total Inv-loop μ-loop
-add-total c = let b = first-total (octets (c .before .before .before .before .before .before .before .before .before .before .before .before .before)) (c .before .before .before .before .before .before .before .before .before .before .loop .inv) (first-here (octets (c .before .before .before .before .before .before .before .before .before .before .before .before .before)) (c .before .before .before .before .before .before .before .before .before .before .loop .inv) _ _ (c .before .before .before .before .before .before .before .before .before .told .ensures) (c .before .before .before .before .before .before .before .before .step-at .ensures) _ _ (c .before .before .before .before .before .before .i .given .1) .0) (c .before .left-of .result) (c .before .left-of .ensures) in search needs
+add-total c = let b = first-total (octets (c .before .before .before .before .before .before .before .before .before .before .before .before)) (c .before .before .before .before .before .before .before .before .before .loop .inv) (first-here (octets (c .before .before .before .before .before .before .before .before .before .before .before .before)) (c .before .before .before .before .before .before .before .before .before .loop .inv) _ _ (c .before .before .before .before .before .before .before .before .told .ensures) (c .before .before .before .before .before .before .before .step-at .ensures) _ _ (c .before .before .before .before .before .i .given .1) .0) in let k = c .size-left .ensures in search needs
 
 table-behind-requires : tie.Need-table-behind-requires Inv-loop μ-loop
-table-behind-requires c κs = (stands-told (first-here (octets (c .before .before .before .before .before .before .before .before .before .before .before .before .before .before)) (c .before .before .before .before .before .before .before .before .before .before .before .loop .inv) _ _ (c .before .before .before .before .before .before .before .before .before .before .told .ensures) (c .before .before .before .before .before .before .before .before .before .step-at .ensures) _ _ (c .before .before .before .before .before .before .before .i .given .1) .0) _ (c .before .before .before .before .before .told2 .ensures) _ (c .before .before .before .before .outline-at .ensures), search needs)
+table-behind-requires c κs = (stands-told (first-here (octets (c .before .before .before .before .before .before .before .before .before .before .before .before .before)) (c .before .before .before .before .before .before .before .before .before .before .loop .inv) _ _ (c .before .before .before .before .before .before .before .before .before .told .ensures) (c .before .before .before .before .before .before .before .before .step-at .ensures) _ _ (c .before .before .before .before .before .before .i .given .1) .0) _ (c .before .before .before .before .told2 .ensures) _ (c .before .before .before .outline-at .ensures), search needs)
 
 loop-less : tie.Need-loop-less Inv-loop μ-loop
-loop-less c = let h = first-here (octets (c .before .before .before .before .before .before .before .before .before .before .before .before .before .before .before .before .before)) (c .before .before .before .before .before .before .before .before .before .before .before .before .before .before .loop .inv) _ _ (c .before .before .before .before .before .before .before .before .before .before .before .before .before .told .ensures) (c .before .before .before .before .before .before .before .before .before .before .before .before .step-at .ensures) _ _ (c .before .before .before .before .before .before .before .before .before .before .i .given .1) in let g = goes-on (h .0) in let n = h .1 in search needs
+loop-less c = let h = first-here (octets (c .before .before .before .before .before .before .before .before .before .before .before .before .before .before .before .before)) (c .before .before .before .before .before .before .before .before .before .before .before .before .before .loop .inv) _ _ (c .before .before .before .before .before .before .before .before .before .before .before .before .told .ensures) (c .before .before .before .before .before .before .before .before .before .before .before .step-at .ensures) _ _ (c .before .before .before .before .before .before .before .before .before .i .given .1) in let g = goes-on (h .0) in let n = h .1 in search needs
 
 loop-again : tie.Need-loop-again Inv-loop μ-loop
 loop-again c =
-    let h = first-here (octets (c .before .before .before .before .before .before .before .before .before .before .before .before .before .before .before .before .before)) (c .before .before .before .before .before .before .before .before .before .before .before .before .before .before .loop .inv) _ _ (c .before .before .before .before .before .before .before .before .before .before .before .before .before .told .ensures) (c .before .before .before .before .before .before .before .before .before .before .before .before .step-at .ensures) _ _ (c .before .before .before .before .before .before .before .before .before .before .i .given .1) in
+    let h = first-here (octets (c .before .before .before .before .before .before .before .before .before .before .before .before .before .before .before .before)) (c .before .before .before .before .before .before .before .before .before .before .before .before .before .loop .inv) _ _ (c .before .before .before .before .before .before .before .before .before .before .before .before .told .ensures) (c .before .before .before .before .before .before .before .before .before .before .before .step-at .ensures) _ _ (c .before .before .before .before .before .before .before .before .before .i .given .1) in
     let t = c .before .before .table-behind .ensures in
-    first-turn (octets (c .before .before .before .before .before .before .before .before .before .before .before .before .before .before .before .before .before)) (c .before .before .before .before .before .before .before .before .before .before .before .before .before .before .loop .inv) (h .0) (c .before .before .before .before .before .left-of .result) (c .before .before .before .before .before .left-of .ensures) _ _ _ _ (search needs) (t .0) (t .1) (h .1) (c .before .before .before .before .size-of .ensures)
+    first-turn (octets (c .before .before .before .before .before .before .before .before .before .before .before .before .before .before .before .before)) (c .before .before .before .before .before .before .before .before .before .before .before .before .before .loop .inv) (h .0) _ _ _ _ (search needs) (t .0) (t .1) (h .1) (c .before .before .before .before .size-left .ensures)
 
 pub measure-spec : {M : Type 1} → statement M
 measure-spec =
@@ -97,9 +94,8 @@ measure-spec =
     enum-known-i
     told-requires-2
     outline-at-requires
-    sub-left-of
-    left-of-requires
-    size-of-requires
+    sub-size-left
+    size-left-requires
     add-total
     table-behind-requires
     loop-less

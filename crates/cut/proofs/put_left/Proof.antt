@@ -16,8 +16,8 @@ enum-told c = search needs
 enum-known-l : tie.Need-enum-known-l
 enum-known-l c = search needs
 
-copy-requires : tie.Need-copy-requires
-copy-requires c κs =
+copy-blocks-requires : tie.Need-copy-blocks-requires
+copy-blocks-requires c κs =
     let q = c .before .before .before .before .before .before .before .before in
     let a = q .args in
     let h = rw (c .before .before .l .given .1) at (q .pre .0) in
@@ -88,7 +88,7 @@ returns-2 c =
     let q = c .before .before .before .before .before .before .before .before .before .before .before in
     let a = q .args in
     let h = rw (c .before .before .before .before .before .l .given .1) at (q .pre .0) in
-    rw (c .before .before .before .before .before .l .given .1) (ap (λ n. a .put + n) (sym (length-part (now (a .d)) (a .at) _ h)), c .before .before .copy .ensures)
+    rw (c .before .before .before .before .before .l .given .1) (ap (λ n. a .put + n) (sym (length-part (now (a .d)) (a .at) _ h)), c .before .before .copy-blocks .ensures)
 
 same-length-2 : tie.Need-same-length-2
 same-length-2 c = search needs
@@ -124,7 +124,7 @@ put-left-spec =
     (tie.spec
     enum-told
     enum-known-l
-    copy-requires
+    copy-blocks-requires
     add-result
     enum-known-l-2
     put-front-requires

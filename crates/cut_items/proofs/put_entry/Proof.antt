@@ -27,17 +27,17 @@ returns c = rw (le-leb 65536 (c .before .before .before .args .k) (c .if1 .taken
 put-number-requires : tie.Need-put-number-requires
 put-number-requires c κs = let e = there (c .before) in let r = room (c .before) in omega (arith, e .size, r)
 
-add-copy : tie.Need-add-copy
-add-copy c = let e = there (c .before .before .before .before) in omega (arith, e .size, e .room)
+add-copy-blocks : tie.Need-add-copy-blocks
+add-copy-blocks c = let e = there (c .before .before .before .before) in omega (arith, e .size, e .room)
 
-sub-copy : tie.Need-sub-copy
-sub-copy c = let e = there (c .before .before .before .before) in omega (arith, e .size)
+sub-copy-blocks : tie.Need-sub-copy-blocks
+sub-copy-blocks c = let e = there (c .before .before .before .before) in omega (arith, e .size)
 
-add-copy-2 : tie.Need-add-copy-2
-add-copy-2 c = search needs
+add-copy-blocks-2 : tie.Need-add-copy-blocks-2
+add-copy-blocks-2 c = search needs
 
-copy-requires : tie.Need-copy-requires
-copy-requires c κs =
+copy-blocks-requires : tie.Need-copy-blocks-requires
+copy-blocks-requires c κs =
     let k = c .before .before .before .before .before in
     let e = there k in
     let r = room k in
@@ -56,7 +56,7 @@ returns-2 c =
     let s = k .before .before .before .pre .1 .0 in
     let n = c .before .before .before .before .before .before .put-number .ensures in
     rw (lt-leb 65536 (a .k) (k .if1 .left))
-    (refl, renumbered (a .m .now) (a .at) (a .peers) (a .k) _ (a .out .now) _ _ (a .put) (a .size) (there k) s (room k) n (c .before .before .copy .ensures))
+    (refl, renumbered (a .m .now) (a .at) (a .peers) (a .k) _ (a .out .now) _ _ (a .put) (a .size) (there k) s (room k) n (c .before .before .copy-blocks .ensures))
 
 pub put-entry-spec : {M : Type 1} → statement M
 put-entry-spec =
@@ -64,10 +64,10 @@ put-entry-spec =
     (tie.spec
     returns
     put-number-requires
-    add-copy
-    sub-copy
-    add-copy-2
-    copy-requires
+    add-copy-blocks
+    sub-copy-blocks
+    add-copy-blocks-2
+    copy-blocks-requires
     add-result
     same-length
     returns-2)
