@@ -1,6 +1,6 @@
 -- Where a good record ends. Assumes nothing.
 use mathlib.Core.Path.{_≡_, refl, sym, ap, _∙_}
-use mathlib.Core.Bool.{Bool, true, false, _||_}
+use mathlib.Core.Bool.{Bool, true, false}
 use mathlib.Core.List.{List, _++_}
 use Prim.Native.Nat.{ℕ, zero, suc, _+_, _-_, _≤_, _<_}
 use native.Mathlib.Omega.{arith}
@@ -9,12 +9,12 @@ use lib.ListN.{length, take, drop, length-drop, take-append-drop}
 use lib.Seq.{length-take-le, take-append-le, drop-append-le, drop-drop}
 use borrow.Author.Tests.{ltb-false, ne-eqb}
 use Rattle.form.specs.Fmt.{Fmt}
-use Rattle.form.specs.Words.{choose, within}
+use Rattle.form.specs.Words.{choose}
 use Rattle.form.specs.Pass.{Seen, whole}
 use Rattle.num.specs.Be.{numAt}
 use Rattle.flow.specs.declared.Num.{Num}
 use Rattle.flow.specs.declared.Num.the-variants as one
-use Rattle.page.specs.Layout.{kind12, kind13, kind16, kind}
+use Rattle.page.specs.Layout.{kind}
 use Rattle.page.specs.declared.Kind.{Kind}
 use Rattle.page.specs.declared.Kind.the-variants as chosen
 use Rattle.shown.specs.declared.Table.{Table}
@@ -23,6 +23,7 @@ use Rattle.shown.specs.declared.Shown.{Shown}
 use Rattle.shown.specs.declared.Shown.the-variants.{Nothing, Refused}
 use Rattle.reading.specs.Answer.{fault, place}
 use Rattle.reading.specs.One.{microAt, behind, tabled, shownAs, wholeRecord, readOne}
+use Rattle.round_trip.proofs.Choice.{Says, kind-says}
 use Rattle.outline.proofs.Fields.{by-choose, every}
 
 -- a number in the first octets
@@ -63,44 +64,16 @@ module _ (n : ℕ) where
   ends-tabled Absent k h = refused 11 6
   ends-tabled (Holds p) k h = h p
 
--- a kind that is refused has a number
-abbrev Numbered : Kind → Type 0
-Numbered (chosen.Refused n p) = 0 < n
-Numbered (chosen.Unread micro) = Unit
-Numbered (chosen.TableDump size) = Unit
-Numbered chosen.PeerTable = Unit
-Numbered (chosen.Rib bits) = Unit
-Numbered chosen.RibGeneric = Unit
-Numbered (chosen.Change micro w) = Unit
-Numbered (chosen.Message micro w) = Unit
-
-either : (b : Bool) (x y : Kind) → Numbered x → Numbered y → Numbered (choose b x y)
-either = by-choose Numbered
-
-numbered16 : (micro sub : ℕ) → Numbered (kind16 micro sub)
-unfolding kind16
-numbered16 micro sub = either (eqb sub 0) _ _ tt (either (eqb sub 5) _ _ tt (either (eqb sub 1 || eqb sub 6) _ _ tt (either (eqb sub 4 || eqb sub 7) _ _ tt (omega arith))))
-
-numbered : (type sub : ℕ) → Numbered (kind type sub)
-unfolding kind kind12 kind13
-numbered type sub =
-    either (eqb type 11 || eqb type 32 || eqb type 48) _ _ tt
-    (either (eqb type 33 || eqb type 49) _ _ tt
-    (either (eqb type 12) _ _ (either (eqb sub 1) _ _ tt (either (eqb sub 2) _ _ tt (omega arith)))
-    (either (eqb type 13) _ _ (either (eqb sub 1) _ _ tt (either (within 2 sub 3) _ _ tt (either (within 4 sub 5) _ _ tt (either (eqb sub 6) _ _ tt (omega arith)))))
-    (either (eqb type 16) _ _ (numbered16 0 sub)
-    (either (eqb type 17) _ _ (numbered16 4 sub) (omega arith))))))
-
-ends-kind : (most : ℕ) (t : Table) (m : List ℕ) (k : Kind) → Numbered k → Ends (12 + numAt m 8 4) (shownAs most t m k)
+ends-kind : (most : ℕ) (t : Table) (m : List ℕ) (type sub : ℕ) (k : Kind) → Says type sub k → Ends (12 + numAt m 8 4) (shownAs most t m k)
 unfolding shownAs
-ends-kind most t m (chosen.Refused n p) h = λ e. absurd (omega arith)
-ends-kind most t m (chosen.Unread micro) h = ends-behind _ (microAt m micro) _ (λ u a e. refl)
-ends-kind most t m (chosen.TableDump s) h = ends-whole _ _ _ m 12 (λ fs. refl)
-ends-kind most t m chosen.PeerTable h = ends-whole _ _ _ m 12 (λ fs. refl)
-ends-kind most t m (chosen.Rib bits) h = ends-tabled _ t _ (λ p. ends-whole _ _ _ m 12 (λ fs. refl))
-ends-kind most t m chosen.RibGeneric h = ends-tabled _ t _ (λ p. ends-whole _ _ _ m 12 (λ fs. refl))
-ends-kind most t m (chosen.Change micro w) h = ends-behind _ (microAt m micro) _ (λ u a. ends-whole _ _ _ m a (λ fs. refl))
-ends-kind most t m (chosen.Message micro w) h = ends-behind _ (microAt m micro) _ (λ u a. ends-whole _ _ _ m a (λ fs. refl))
+ends-kind most t m y u (chosen.Refused n p) h = λ e. absurd (omega (arith, h .0))
+ends-kind most t m y u (chosen.Unread micro) h = ends-behind _ (microAt m micro) _ (λ u a e. refl)
+ends-kind most t m y u (chosen.TableDump s) h = ends-whole _ _ _ m 12 (λ fs. refl)
+ends-kind most t m y u chosen.PeerTable h = ends-whole _ _ _ m 12 (λ fs. refl)
+ends-kind most t m y u (chosen.Rib bits) h = ends-tabled _ t _ (λ p. ends-whole _ _ _ m 12 (λ fs. refl))
+ends-kind most t m y u chosen.RibGeneric h = ends-tabled _ t _ (λ p. ends-whole _ _ _ m 12 (λ fs. refl))
+ends-kind most t m y u (chosen.Change micro w) h = ends-behind _ (microAt m micro) _ (λ u a. ends-whole _ _ _ m a (λ fs. refl))
+ends-kind most t m y u (chosen.Message micro w) h = ends-behind _ (microAt m micro) _ (λ u a. ends-whole _ _ _ m a (λ fs. refl))
 
 -- ---- the record that starts s
 
@@ -131,7 +104,7 @@ there most t s some good = go (ltb (length s) 12) refl (ltb (length s - 12) n) r
         let c = ltb-false (length s - 12) n g in
         let l : 12 + n ≤ length s = omega arith in
         let k : fault (wholeRecord most t m) ≡ 0 = rw x at good in
-        record { long = l; shown = x; ends = rw x (ends-kind most t m (kind (numAt m 4 2) (numAt m 6 2)) (numbered (numAt m 4 2) (numAt m 6 2)) k ∙ rw (length-first s l .1)) }
+        record { long = l; shown = x; ends = rw x (ends-kind most t m (numAt m 4 2) (numAt m 6 2) (kind (numAt m 4 2) (numAt m 6 2)) (kind-says (numAt m 4 2) (numAt m 6 2)) k ∙ rw (length-first s l .1)) }
 
 -- the record that starts at `at` of d
 module _ (most : ℕ) (t : Table) (d : List ℕ) (at : ℕ) (more : at < length d) (good : fault (readOne most t (drop at d)) ≡ 0) where

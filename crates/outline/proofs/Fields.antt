@@ -1,7 +1,6 @@
 -- What is true of a format's answer however its fields turn out, field by field. Assumes nothing.
 use mathlib.Core.Path.{_≡_, refl}
-use mathlib.Core.Bool.{Bool, true, false, cond, _||_}
-use mathlib.Core.Logic.{_⊎_, inl, inr}
+use mathlib.Core.Bool.{Bool, true, false, cond}
 use mathlib.Core.List.{List}
 use Prim.Native.Nat.{ℕ, zero, suc, _+_, _≤_}
 use native.Mathlib.Omega.{arith}
@@ -21,15 +20,6 @@ pub by-choose : {A : Type 0} (P : A → Type 0) (b : Bool) (x y : A) → P x →
 unfolding choose
 by-choose P true x y f g = f
 by-choose P false x y f g = g
-
-pub by-test : {A : Type 0} (P : A → Type 0) (b : Bool) (x y : A) → (b ≡ true → P x) → P y → P (choose b x y)
-unfolding choose
-by-test P true x y f g = f refl
-by-test P false x y f g = g
-
-pub either : (a b : Bool) → a || b ≡ true → (a ≡ true) ⊎ (b ≡ true)
-either true b e = inl refl
-either false b e = inr e
 
 -- P holds of every fault
 module _ {A : Type 0} (P : A → Type 0) (fault : ℕ → ℕ → A) (bad : (n p : ℕ) → P (fault (suc n) p)) (m : List ℕ) where

@@ -32,10 +32,11 @@ use Rattle.shown.specs.declared.Shown.the-variants.{Refused}
 use Rattle.shown.specs.Told as show
 use Rattle.reading.specs.Answer.{fault, time}
 use Rattle.reading.specs.One.{header, microAt, behind, tabled, shownAs, wholeRecord}
+use Rattle.round_trip.proofs.Choice.{by-test, either}
 use Rattle.outline.specs.Outlines.{outlineOf, timeIn, widthOf, microOf}
 use Rattle.outline.specs.declared.Outline.{Outline}
 use Rattle.outline.specs.declared.Outline.the-variants.{Unread, Peer, Table, Rib}
-use Rattle.outline.proofs.Fields.{by-choose, by-test, either, field-then, test-then, every}
+use Rattle.outline.proofs.Fields.{by-choose, field-then, test-then, every}
 
 -- a good x has the outline o, and b holds
 abbrev pub Sees : Outline → Type 0 → Shown → Type 0

@@ -27,12 +27,12 @@ Says y u (Change micro w) = Bgp y micro
 Says y u (Message micro w) = Bgp y micro
 
 -- by the tests, one after another
-by-test : (P : Kind → Type 0) (b : Bool) (k j : Kind) → (b ≡ true → P k) → P j → P (choose b k j)
+pub by-test : (P : Kind → Type 0) (b : Bool) (k j : Kind) → (b ≡ true → P k) → P j → P (choose b k j)
 unfolding choose
 by-test P true k j h g = h refl
 by-test P false k j h g = g
 
-either : (a b : Bool) → a || b ≡ true → (a ≡ true) ⊎ (b ≡ true)
+pub either : (a b : Bool) → a || b ≡ true → (a ≡ true) ⊎ (b ≡ true)
 either true b e = inl refl
 either false b e = inr e
 
