@@ -1,14 +1,15 @@
 // Types 16 and 17: state changes and BGP messages. m is the record from its header to its last octet.
-// Each function that leads to a BGP message has one caller, and so the compiler puts them all into the walk's loop. That is why the
-// session is read in two places.
 ghost use mathlib.Core.Path.{_≡_};
 ghost use Prim.Native.Nat.{_+_, _≤_};
-ghost use Rattle.form.specs.Pass.{whole};
+ghost use Rattle.form.specs.Fmt.{end};
+ghost use Rattle.form.specs.Pass.{pass, whole};
 ghost use Rattle.page.specs.Bgp4mp.{session, addresses, stateChange, message, messageRest};
 ghost use Rattle.shown.specs.Told.{changed, told, sessionOf};
 ghost use Rattle.shown.specs.Told as show;
 ghost use Rattle.shown.specs.declared.Shown.the-variants.{Message, Refused};
 ghost use Rattle.bgp.specs.Size.{addressSize};
+ghost use Rattle.bgp.specs.Met.{met};
+ghost use Rattle.bgp.specs.declared.Met.the-variants.{With, Bad};
 use flow::Num;
 use flow::Room;
 use flow::field;
@@ -32,6 +33,64 @@ fn address_size(family: u64) -> Size
         2 => Size::Octets(16),
         _ => Size::Unknown,
     }
+}
+
+// A session and the place behind it, or a fault's number and place.
+pub enum Met {
+    With(Session, usize),
+    Bad(u8, usize),
+}
+
+// The addresses of a session.
+fn addresses_at(
+    m: &[u8],
+    at: usize,
+    size: usize,
+    peer: u64,
+    local: u64,
+    interface: u64,
+    family: u64,
+) -> Met
+    ensures { λ r. ⌜ r ≡ pass (λ fs a p. With (sessionOf peer local interface family fs) a) Bad (addresses size (end 0)) (now (m .entry)) at ⌝ }
+{
+    let Room::To(a) = skip(m, at, size) else {
+        return Met::Bad(5, at);
+    };
+    let Room::To(b) = skip(m, a, size) else {
+        return Met::Bad(5, a);
+    };
+    let s = Session {
+        peer,
+        local,
+        interface,
+        family,
+        theirs: Part { at, size },
+        ours: Part { at: a, size },
+    };
+    Met::With(s, b)
+}
+
+// The session that starts at `at`, with AS numbers of `width` octets.
+fn session_at(m: &[u8], at: usize, width: usize) -> Met
+    requires { ⌜ width ≤ 8 ⌝ }
+    ensures { λ r. ⌜ r ≡ pass met Bad (session width (end 0)) (now (m .entry)) at ⌝ }
+{
+    let Num::Value(peer, a) = field(m, at, width) else {
+        return Met::Bad(5, at);
+    };
+    let Num::Value(local, b) = field(m, a, width) else {
+        return Met::Bad(5, a);
+    };
+    let Num::Value(interface, d) = field(m, b, 2) else {
+        return Met::Bad(5, b);
+    };
+    let Num::Value(family, e) = field(m, d, 2) else {
+        return Met::Bad(5, d);
+    };
+    let Size::Octets(size) = address_size(family) else {
+        return Met::Bad(7, d);
+    };
+    addresses_at(m, e, size, peer, local, interface, family)
 }
 
 fn states(m: &[u8], at: usize, h: Header, s: Session) -> Shown
@@ -115,88 +174,15 @@ pub fn message_at(m: &[u8], at: usize, most: u64, h: Header, s: Session) -> Show
     message_rest(m, d, a, n, most, h, s, at, kind)
 }
 
-// The addresses, and then the states.
-fn change_addresses(
-    m: &[u8],
-    at: usize,
-    size: usize,
-    peer: u64,
-    local: u64,
-    interface: u64,
-    family: u64,
-    h: Header,
-) -> Shown
-    ensures { λ r. ⌜ r ≡ whole (λ fs. changed h (sessionOf peer local interface family fs) fs) Refused (addresses size stateChange) (now (m .entry)) at ⌝ }
-{
-    let Room::To(a) = skip(m, at, size) else {
-        return Shown::Refused(5, at);
-    };
-    let Room::To(b) = skip(m, a, size) else {
-        return Shown::Refused(5, a);
-    };
-    let s = Session {
-        peer,
-        local,
-        interface,
-        family,
-        theirs: Part { at, size },
-        ours: Part { at: a, size },
-    };
-    states(m, b, h, s)
-}
-
 // A state change whose session starts at `at`, with AS numbers of `width` octets.
 pub fn state_change(m: &[u8], at: usize, width: usize, h: Header) -> Shown
     requires { ⌜ width ≤ 8 ⌝ }
     ensures { λ r. ⌜ r ≡ whole (show.change h) Refused (session width stateChange) (now (m .entry)) at ⌝ }
 {
-    let Num::Value(peer, a) = field(m, at, width) else {
-        return Shown::Refused(5, at);
-    };
-    let Num::Value(local, b) = field(m, a, width) else {
-        return Shown::Refused(5, a);
-    };
-    let Num::Value(interface, d) = field(m, b, 2) else {
-        return Shown::Refused(5, b);
-    };
-    let Num::Value(family, e) = field(m, d, 2) else {
-        return Shown::Refused(5, d);
-    };
-    let Size::Octets(size) = address_size(family) else {
-        return Shown::Refused(7, d);
-    };
-    change_addresses(m, e, size, peer, local, interface, family, h)
-}
-
-// The addresses, and then a BGP message.
-fn message_addresses(
-    m: &[u8],
-    at: usize,
-    size: usize,
-    peer: u64,
-    local: u64,
-    interface: u64,
-    family: u64,
-    most: u64,
-    h: Header,
-) -> Shown
-    ensures { λ r. ⌜ r ≡ whole (λ fs. told h (sessionOf peer local interface family fs) fs) Refused (addresses size (message most)) (now (m .entry)) at ⌝ }
-{
-    let Room::To(a) = skip(m, at, size) else {
-        return Shown::Refused(5, at);
-    };
-    let Room::To(b) = skip(m, a, size) else {
-        return Shown::Refused(5, a);
-    };
-    let s = Session {
-        peer,
-        local,
-        interface,
-        family,
-        theirs: Part { at, size },
-        ours: Part { at: a, size },
-    };
-    message_at(m, b, most, h, s)
+    match session_at(m, at, width) {
+        Met::With(s, a) => states(m, a, h, s),
+        Met::Bad(n, p) => Shown::Refused(n, p),
+    }
 }
 
 // The same for a BGP message.
@@ -204,20 +190,8 @@ pub fn bgp_message(m: &[u8], at: usize, width: usize, most: u64, h: Header) -> S
     requires { ⌜ width ≤ 8 ⌝ }
     ensures { λ r. ⌜ r ≡ whole (show.message h) Refused (session width (message most)) (now (m .entry)) at ⌝ }
 {
-    let Num::Value(peer, a) = field(m, at, width) else {
-        return Shown::Refused(5, at);
-    };
-    let Num::Value(local, b) = field(m, a, width) else {
-        return Shown::Refused(5, a);
-    };
-    let Num::Value(interface, d) = field(m, b, 2) else {
-        return Shown::Refused(5, b);
-    };
-    let Num::Value(family, e) = field(m, d, 2) else {
-        return Shown::Refused(5, d);
-    };
-    let Size::Octets(size) = address_size(family) else {
-        return Shown::Refused(7, d);
-    };
-    message_addresses(m, e, size, peer, local, interface, family, most, h)
+    match session_at(m, at, width) {
+        Met::With(s, a) => message_at(m, a, most, h, s),
+        Met::Bad(n, p) => Shown::Refused(n, p),
+    }
 }

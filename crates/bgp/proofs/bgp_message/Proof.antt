@@ -1,106 +1,37 @@
--- `bgp::bgp_message` meets its contract. Assumes nothing.
-use Rattle.page.specs.Bgp4mp.{session}
-use Rattle.flow.proofs.Rules.{flow}
-use Rattle.bgp.proofs.Laws.{sizes}
+-- `bgp::bgp_message` meets its contract: the BGP message from where the session ends; the names of its fields are none of the session's (`refl`). Assumes nothing.
+use mathlib.Core.Path.{refl, _∙_}
+use Rattle.shown.specs.Told.{told}
+use Rattle.shown.specs.declared.Shown.the-variants.{Refused}
+use Rattle.bgp.proofs.Laws.{met-then}
 use borrow.Author.Needs.{needs}
 use Rattle.bgp.proofs.bgp_message.Statement.{statement}
 use Rattle.bgp.proofs.bgp_message.Tie as tie
 
-field-requires : tie.Need-field-requires
-field-requires c κs = search needs
+session-at-requires : tie.Need-session-at-requires
+session-at-requires c κs = search needs
 
-enum-known-peer : tie.Need-enum-known-peer
-enum-known-peer c = search needs
+enum-known-s : tie.Need-enum-known-s
+enum-known-s c = search needs
 
-enum-told : tie.Need-enum-told
-enum-told c = search needs
+message-at-requires : tie.Need-message-at-requires
+message-at-requires c κs = search needs
+
+enum-known-n : tie.Need-enum-known-n
+enum-known-n c = search needs
 
 returns : tie.Need-returns
-unfolding session
-returns c = search flow depth 12
-
-field-requires-2 : tie.Need-field-requires-2
-field-requires-2 c κs = search needs
-
-enum-known-local : tie.Need-enum-known-local
-enum-known-local c = search needs
-
-enum-told-2 : tie.Need-enum-told-2
-enum-told-2 c = search needs
+returns c =
+    let answer = c .before .before .before .before .session-at in
+    let read = c .before .before .s .given .1 in
+    c .message-at .ensures ∙ met-then (told _) Refused _ _ _ _ (λ s n fs. refl) (answer .ensures) read
 
 returns-2 : tie.Need-returns-2
-unfolding session
-returns-2 c = search flow depth 12
-
-field-requires-3 : tie.Need-field-requires-3
-field-requires-3 c κs = search needs
-
-enum-known-interface : tie.Need-enum-known-interface
-enum-known-interface c = search needs
-
-enum-told-3 : tie.Need-enum-told-3
-enum-told-3 c = search needs
-
-returns-3 : tie.Need-returns-3
-unfolding session
-returns-3 c = search flow depth 12
-
-field-requires-4 : tie.Need-field-requires-4
-field-requires-4 c κs = search needs
-
-enum-known-family : tie.Need-enum-known-family
-enum-known-family c = search needs
-
-enum-told-4 : tie.Need-enum-told-4
-enum-told-4 c = search needs
-
-returns-4 : tie.Need-returns-4
-unfolding session
-returns-4 c = search flow depth 12
-
-address-size-requires : tie.Need-address-size-requires
-address-size-requires c κs = search needs
-
-enum-known-size : tie.Need-enum-known-size
-enum-known-size c = search needs
-
-enum-told-5 : tie.Need-enum-told-5
-enum-told-5 c = search needs
-
-returns-5 : tie.Need-returns-5
-unfolding session
-returns-5 c = search (flow, sizes) depth 12
-
-message-addresses-requires : tie.Need-message-addresses-requires
-message-addresses-requires c κs = search needs
-
-returns-6 : tie.Need-returns-6
-unfolding session
-returns-6 c = search (flow, sizes) depth 12
+returns-2 c =
+    let answer = c .before .before .before .session-at in
+    let refused = c .before .n .given .1 in
+    met-then (told _) Refused _ _ _ _ (λ s n fs. refl) (answer .ensures) refused
 
 pub bgp-message-spec : {M : Type 1} → statement M
 bgp-message-spec =
     tie.close
-    (tie.spec
-    field-requires
-    enum-known-peer
-    enum-told
-    returns
-    field-requires-2
-    enum-known-local
-    enum-told-2
-    returns-2
-    field-requires-3
-    enum-known-interface
-    enum-told-3
-    returns-3
-    field-requires-4
-    enum-known-family
-    enum-told-4
-    returns-4
-    address-size-requires
-    enum-known-size
-    enum-told-5
-    returns-5
-    message-addresses-requires
-    returns-6)
+    (tie.spec session-at-requires enum-known-s message-at-requires enum-known-n returns returns-2)

@@ -1,9 +1,9 @@
--- `bgp::change_addresses` meets its contract. Assumes nothing.
+-- `bgp::addresses_at` meets its contract. Assumes nothing.
 use Rattle.page.specs.Bgp4mp.{addresses}
 use Rattle.flow.proofs.Rules.{flow}
 use borrow.Author.Needs.{needs}
-use Rattle.bgp.proofs.change_addresses.Statement.{statement}
-use Rattle.bgp.proofs.change_addresses.Tie as tie
+use Rattle.bgp.proofs.addresses_at.Statement.{statement}
+use Rattle.bgp.proofs.addresses_at.Tie as tie
 
 skip-requires : tie.Need-skip-requires
 skip-requires c κs = search needs
@@ -31,15 +31,12 @@ returns-2 : tie.Need-returns-2
 unfolding addresses
 returns-2 c = search flow depth 12
 
-states-requires : tie.Need-states-requires
-states-requires c κs = search needs
-
 returns-3 : tie.Need-returns-3
 unfolding addresses
 returns-3 c = search flow depth 12
 
-pub change-addresses-spec : {M : Type 1} → statement M
-change-addresses-spec =
+pub addresses-at-spec : {M : Type 1} → statement M
+addresses-at-spec =
     tie.close
     (tie.spec
     skip-requires
@@ -50,5 +47,4 @@ change-addresses-spec =
     enum-known-b
     enum-told-2
     returns-2
-    states-requires
     returns-3)
