@@ -6,6 +6,7 @@ mod cutting;
 mod made;
 mod plain;
 mod plain_cut;
+mod plain_fault;
 mod proved;
 mod random;
 mod small;
