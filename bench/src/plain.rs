@@ -183,20 +183,21 @@ fn are_entries(mut octets: &[u8], count: u16, peers: u16) -> bool {
     octets.is_empty()
 }
 
-/// Whether attributes fill these octets. One that is too long leads past the end, and that is asked
-/// once, behind the loop.
+/// Whether attributes fill these octets.
 #[inline(always)]
-fn tile(octets: &[u8]) -> bool {
-    let mut at = 0;
-    while let Some([flags, _, size]) = octets.get(at..).and_then(|rest| rest.first_chunk()) {
-        at += if flags & 16 == 0 {
-            3 + usize::from(*size)
+fn tile(mut octets: &[u8]) -> bool {
+    while let [flags, _, size, rest @ ..] = octets {
+        let after = if flags & 16 == 0 {
+            rest.get(usize::from(*size)..)
+        } else if let [low, rest @ ..] = rest {
+            rest.get(usize::from(u16::from_be_bytes([*size, *low]))..)
         } else {
-            match octets.get(at + 3) {
-                Some(low) => 4 + usize::from(u16::from_be_bytes([*size, *low])),
-                None => return false,
-            }
+            None
         };
+        match after {
+            Some(after) => octets = after,
+            None => return false,
+        }
     }
-    at == octets.len()
+    octets.is_empty()
 }
