@@ -38,12 +38,12 @@ pub fn compare_seed(seed: u64, desk: &mut Desk, tally: &mut Tally) -> Result<(),
     let made = making::any(&mut rng);
     let differs = |dump: &[u8], told| Difference { seed, dump: dump.to_vec(), told };
     tally.kind(made.kind);
-    let accepted = tally.faults[0];
-    compare_dump(&made.dump, &mut rng, desk, tally).map_err(|told| differs(&made.dump, told))?;
+    let fault = compare_dump(&made.dump, &mut rng, desk, tally)
+        .map_err(|told| differs(&made.dump, told))?;
     let Some(field) = made.field else {
         return Ok(());
     };
-    tally.field(field, tally.faults[0] == accepted);
+    tally.field(field, fault != 0);
     for dump in making::with_fields_damaged(ALONE, &mut rng) {
         desk.lay(&dump, spots(&mut rng));
         itself::compare(desk).map_err(|told| differs(&dump, told))?;
@@ -52,11 +52,12 @@ pub fn compare_seed(seed: u64, desk: &mut Desk, tally: &mut Tally) -> Result<(),
     Ok(())
 }
 
-/// Compares all calls with this dump.
-pub fn compare_dump(dump: &[u8], rng: &mut Rng, desk: &mut Desk, tally: &mut Tally) -> Told<()> {
+/// Compares all calls with this dump; the number of its fault.
+pub fn compare_dump(dump: &[u8], rng: &mut Rng, desk: &mut Desk, tally: &mut Tally) -> Told<u8> {
     let read = Dump::read(dump);
+    let fault = read.end.number();
     tally.dumps += 1;
-    tally.faults[usize::from(read.end.number())] += 1;
+    tally.faults[usize::from(fault)] += 1;
     desk.lay(dump, spots(rng));
     same(|| "check".into(), desk.check()?, expected::check(&read))?;
     itself::compare(desk)?;
@@ -65,7 +66,8 @@ pub fn compare_dump(dump: &[u8], rng: &mut Rng, desk: &mut Desk, tally: &mut Tal
         stray(dump, &read, rng, desk, tally)?;
     }
     desk.is_unchanged()?;
-    cutting::compare(dump, &read, rng, desk, tally)
+    cutting::compare(dump, &read, rng, desk, tally)?;
+    Ok(fault)
 }
 
 /// Nothing, or a call and both answers to it.
