@@ -27,6 +27,7 @@ pub fn measure(name: &str, dump: &[u8]) {
     assert_eq!(answer.fault, 0, "{name}");
     let mut copy = vec![0; dump.len()];
     let seconds = timing::best(
+        dump.len(),
         || _ = black_box(proved::check(black_box(dump))),
         || _ = black_box(plain::dump(black_box(dump))),
         || black_box(&mut copy).copy_from_slice(black_box(dump)),

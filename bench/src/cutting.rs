@@ -1,5 +1,6 @@
 //! The cut: compared, and timed.
 
+use crate::made::Made;
 use crate::plain_cut::Answer;
 use crate::random::Random;
 use crate::{plain_cut, proved, small, timing};
@@ -17,6 +18,19 @@ pub struct Ask {
 }
 
 impl Ask {
+    /// Every time, without every tenth peer.
+    pub fn whole(made: &Made) -> Ask {
+        Ask { from: 0, to: u64::MAX, list: made.numbers.iter().copied().step_by(10).collect() }
+    }
+
+    /// The middle half of the time, without every tenth peer.
+    pub fn half(made: &Made) -> Ask {
+        let [first, last] = [made.seconds.start(), made.seconds.end()];
+        let [first, last] = [first, last].map(|second| u64::from(*second) * 1_000_000);
+        let quarter = (last - first) / 4;
+        Ask { from: first + quarter, to: last - quarter, ..Ask::whole(made) }
+    }
+
     /// Times from 0 to 6 seconds, about the small dumps' ones, and at the end of all times.
     fn random(random: &mut Random) -> Ask {
         let mut time = || match random.within(0, 9) {
@@ -33,11 +47,11 @@ impl Ask {
         Ask { from, to, list }
     }
 
-    fn proved(&self, dump: &[u8], out: &mut [u8]) -> Answer {
+    pub fn proved(&self, dump: &[u8], out: &mut [u8]) -> Answer {
         proved::cut(dump, self.from, self.to, &self.list, out)
     }
 
-    fn plain(&self, dump: &[u8], out: &mut [u8]) -> Answer {
+    pub fn plain(&self, dump: &[u8], out: &mut [u8]) -> Answer {
         plain_cut::cut(dump, self.from, self.to, &self.list, out)
     }
 
@@ -85,6 +99,7 @@ pub fn measure(name: &str, dump: &[u8], ask: &Ask) {
     let mut buffers = [(); 3].map(|_| vec![0; dump.len()]);
     let [rattle, plain, copy] = &mut buffers;
     let seconds = timing::best(
+        dump.len(),
         || _ = black_box(ask.proved(black_box(dump), black_box(rattle))),
         || _ = black_box(ask.plain(black_box(dump), black_box(plain))),
         || black_box(&mut copy[..left.len()]).copy_from_slice(black_box(&left)),

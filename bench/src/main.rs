@@ -1,11 +1,13 @@
-//! Times the proved check and cut of a dump against the same in plain Rust; or, given a folder, writes
-//! the dumps and their lists there, for other programs to be timed with.
+//! Times the proved check and cut of a dump against the same in plain Rust, and counts instructions;
+//! or, given a folder, writes the dumps and their lists there, for other programs to be timed with.
 
 mod checking;
+mod counting;
 mod cutting;
 mod made;
 mod plain;
 mod plain_cut;
+mod plain_fault;
 mod proved;
 mod random;
 mod small;
@@ -16,30 +18,23 @@ use made::Made;
 use std::path::Path;
 use std::{env, fs, io};
 
-const MEGABYTES: usize = 100;
+const USAGE: &str = "usage: bench [MEGABYTES [FOLDER]]";
+const MEGABYTE: usize = 1_000_000;
 
-/// Every time, without every tenth peer.
-fn whole(made: &Made) -> Ask {
-    Ask { from: 0, to: u64::MAX, list: made.numbers.iter().copied().step_by(10).collect() }
-}
-
-/// The middle half of the time, without every tenth peer.
-fn half(made: &Made) -> Ask {
-    let [first, last] = [made.seconds.start(), made.seconds.end()].map(|second| u64::from(*second));
-    let quarter = (last - first) * 1_000_000 / 4;
-    Ask { from: first * 1_000_000 + quarter, to: last * 1_000_000 - quarter, ..whole(made) }
-}
+/// A dump that stays in the cache shows what the code takes, a large one what memory adds.
+const SMALL: usize = MEGABYTE;
+const LARGE: usize = 100 * MEGABYTE;
 
 fn measure_updates(size: usize) {
     let made = made::updates(size);
     checking::measure("updates", &made.dump);
-    cutting::measure("updates, 3 of 30 peers muted", &made.dump, &whole(&made));
-    cutting::measure("updates, the same, the middle half of the time", &made.dump, &half(&made));
+    cutting::measure("updates, 3 of 30 peers muted", &made.dump, &Ask::whole(&made));
+    cutting::measure("updates, the same, the middle half", &made.dump, &Ask::half(&made));
 }
 
 fn measure_table(size: usize, peers: usize) {
     let made = made::table(size, peers);
-    let ask = whole(&made);
+    let ask = Ask::whole(&made);
     checking::measure(&format!("table, {peers} peers"), &made.dump);
     cutting::measure(
         &format!("table, {} of {peers} peers muted", ask.list.len()),
@@ -48,9 +43,15 @@ fn measure_table(size: usize, peers: usize) {
     );
 }
 
+fn measure(size: usize) {
+    measure_updates(size);
+    measure_table(size, 30);
+    measure_table(size, 20_000);
+}
+
 /// A dump, and the AS numbers to be muted, one a line.
 fn write(folder: &Path, name: &str, made: &Made) -> io::Result<()> {
-    let list: Vec<String> = whole(made).list.iter().map(u32::to_string).collect();
+    let list: Vec<String> = Ask::whole(made).list.iter().map(u32::to_string).collect();
     fs::write(folder.join(format!("{name}.mrt")), &made.dump)?;
     fs::write(folder.join(format!("{name}.list")), list.join("\n"))
 }
@@ -61,18 +62,29 @@ fn write_all(folder: &Path, size: usize) -> io::Result<()> {
     write(folder, "table-20000", &made::table(size, 20_000))
 }
 
-fn main() {
-    let megabytes = match env::args().nth(1) {
-        Some(word) => word.parse().expect("usage: bench [MEGABYTES [FOLDER]]"),
-        None => MEGABYTES,
-    };
-    let size = megabytes * 1_000_000;
-    if let Some(folder) = env::args_os().nth(2) {
-        return write_all(Path::new(&folder), size).expect("the folder takes no files");
-    }
+fn compare_and_measure(size: usize) {
     checking::compare();
     cutting::compare();
-    measure_updates(size);
-    measure_table(size, 30);
-    measure_table(size, 20_000);
+    counting::print();
+    measure(SMALL);
+    if size != SMALL {
+        measure(size);
+    }
+}
+
+fn size(megabytes: &str) -> usize {
+    megabytes.parse::<usize>().expect(USAGE) * MEGABYTE
+}
+
+fn main() {
+    let words: Vec<String> = env::args().skip(1).collect();
+    match words.iter().map(String::as_str).collect::<Vec<_>>()[..] {
+        [] => compare_and_measure(LARGE),
+        [counting::WORD, input, call] => counting::run(input, call),
+        [megabytes] => compare_and_measure(size(megabytes)),
+        [megabytes, folder] => {
+            write_all(Path::new(folder), size(megabytes)).expect("the folder takes no files");
+        }
+        _ => panic!("{USAGE}"),
+    }
 }

@@ -3,6 +3,7 @@
 use crate::cutting;
 use crate::desk::{Desk, Spots, Told};
 use crate::expected;
+use crate::itself;
 use crate::lending::Spot;
 use crate::making;
 use crate::tally::Tally;
@@ -11,6 +12,10 @@ use second::dump::{Dump, Located};
 use second::record::Body;
 use second::vectors::rng::Rng;
 use std::fmt::{self, Debug};
+
+/// Dumps with a damaged field that the library alone reads, for each that the second program reads
+/// too: it takes far less time for them.
+const ALONE: usize = 12;
 
 /// Both answers to a call, and the dump it was made with.
 #[derive(Debug)]
@@ -31,27 +36,38 @@ impl fmt::Display for Difference {
 pub fn compare_seed(seed: u64, desk: &mut Desk, tally: &mut Tally) -> Result<(), Difference> {
     let mut rng = Rng::seeded(seed);
     let made = making::any(&mut rng);
+    let differs = |dump: &[u8], told| Difference { seed, dump: dump.to_vec(), told };
     tally.kind(made.kind);
-    compare_dump(&made.dump, &mut rng, desk, tally).map_err(|told| Difference {
-        seed,
-        dump: made.dump,
-        told,
-    })
+    let fault = compare_dump(&made.dump, &mut rng, desk, tally)
+        .map_err(|told| differs(&made.dump, told))?;
+    let Some(field) = made.field else {
+        return Ok(());
+    };
+    tally.field(field, fault != 0);
+    for dump in making::with_fields_damaged(ALONE, &mut rng) {
+        desk.lay(&dump, spots(&mut rng));
+        itself::compare(desk).map_err(|told| differs(&dump, told))?;
+        tally.itself += 1;
+    }
+    Ok(())
 }
 
-/// Compares all calls with this dump.
-pub fn compare_dump(dump: &[u8], rng: &mut Rng, desk: &mut Desk, tally: &mut Tally) -> Told<()> {
+/// Compares all calls with this dump; the number of its fault.
+pub fn compare_dump(dump: &[u8], rng: &mut Rng, desk: &mut Desk, tally: &mut Tally) -> Told<u8> {
     let read = Dump::read(dump);
+    let fault = read.end.number();
     tally.dumps += 1;
-    tally.faults[usize::from(read.end.number())] += 1;
+    tally.faults[usize::from(fault)] += 1;
     desk.lay(dump, spots(rng));
     same(|| "check".into(), desk.check()?, expected::check(&read))?;
+    itself::compare(desk)?;
     walk(&read, desk, tally)?;
     for _ in 0..4 {
         stray(dump, &read, rng, desk, tally)?;
     }
     desk.is_unchanged()?;
-    cutting::compare(dump, &read, rng, desk, tally)
+    cutting::compare(dump, &read, rng, desk, tally)?;
+    Ok(fault)
 }
 
 /// Nothing, or a call and both answers to it.

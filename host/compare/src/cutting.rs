@@ -2,6 +2,7 @@
 
 use crate::comparing::{same, spots};
 use crate::desk::{Ask, Desk, Told};
+use crate::itself;
 use crate::making::{ask, good, Known};
 use crate::tally::Tally;
 use second::cut;
@@ -66,9 +67,10 @@ pub fn compare_room(
     Ok(left)
 }
 
-/// The proved cut of an accepted dump, laid anew.
+/// The proved cut of an accepted dump, laid anew and read once more.
 fn left(dump: &[u8], ask: &Ask, rng: &mut Rng, desk: &mut Desk) -> Told<Vec<u8>> {
     desk.lay(dump, spots(rng));
+    itself::compare(desk)?;
     let answer = desk.cut(ask, dump.len())?;
     same(|| call(ask, dump.len()), answer[..2].to_vec(), vec![0, 0])?;
     Ok(desk.written(answer[2] as usize).to_vec())

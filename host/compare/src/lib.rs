@@ -7,6 +7,7 @@ pub mod comparing;
 pub mod cutting;
 pub mod desk;
 pub mod expected;
+pub mod itself;
 pub mod lending;
 pub mod making;
 pub mod running;

@@ -1,15 +1,19 @@
 //! What was compared, counted.
 
-use crate::making::Kind;
+use crate::making::{Field, Kind};
 use std::fmt;
 
-#[derive(Clone, Debug, Default, PartialEq, Eq)]
+#[derive(Clone, Debug, PartialEq, Eq)]
 pub struct Tally {
     pub dumps: u64,
     /// In the order of [`Kind::ALL`].
     pub kinds: [u64; Kind::ALL.len()],
     /// Dumps by the number of their fault.
     pub faults: [u64; 14],
+    /// Dumps in which this field is damaged, accepted and refused, in the order of [`Field::ALL`].
+    pub fields: [[u64; 2]; Field::COUNT],
+    /// Dumps whose check was held against going from record to record, without the second program.
+    pub itself: u64,
     pub records: u64,
     /// Peers and entries.
     pub items: u64,
@@ -25,9 +29,38 @@ pub struct Tally {
     pub joined: u64,
 }
 
+impl Default for Tally {
+    fn default() -> Tally {
+        Tally {
+            dumps: 0,
+            kinds: [0; Kind::ALL.len()],
+            faults: [0; 14],
+            fields: [[0; 2]; Field::COUNT],
+            itself: 0,
+            records: 0,
+            items: 0,
+            stray: 0,
+            cuts: [0; 16],
+            changed: 0,
+            twice: 0,
+            joined: 0,
+        }
+    }
+}
+
 impl Tally {
     pub fn kind(&mut self, kind: Kind) {
         self.kinds[kind as usize] += 1;
+    }
+
+    /// A dump of which this field is damaged.
+    pub fn field(&mut self, field: Field, is_refused: bool) {
+        self.fields[field as usize][usize::from(is_refused)] += 1;
+    }
+
+    /// How many dumps with one field damaged are accepted, and how many refused.
+    pub fn of_fields(&self) -> [u64; 2] {
+        self.fields.iter().fold([0; 2], |all, one| [all[0] + one[0], all[1] + one[1]])
     }
 
     pub fn add(&mut self, other: &Tally) {
@@ -37,6 +70,8 @@ impl Tally {
         all(&mut self.kinds, &other.kinds);
         all(&mut self.faults, &other.faults);
         all(&mut self.cuts, &other.cuts);
+        self.fields.iter_mut().zip(&other.fields).for_each(|(to, from)| all(to, from));
+        self.itself += other.itself;
         self.dumps += other.dumps;
         self.records += other.records;
         self.items += other.items;
@@ -54,6 +89,11 @@ impl fmt::Display for Tally {
             writeln!(f, "  {kind:?}: {count}")?;
         }
         writeln!(f, "dumps by fault, from 0 on: {:?}", self.faults)?;
+        writeln!(f, "one field damaged: {:?}, accepted and refused", self.of_fields())?;
+        for (field, counts) in Field::ALL.iter().zip(self.fields) {
+            writeln!(f, "  {field:?}: {counts:?}")?;
+        }
+        writeln!(f, "{} more dumps, the library against itself", self.itself)?;
         writeln!(f, "{} records, {} peers and entries", self.records, self.items)?;
         writeln!(f, "{} calls at any place", self.stray)?;
         writeln!(f, "cuts by answer, from 0 on: {:?}", self.cuts)?;

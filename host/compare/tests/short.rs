@@ -10,7 +10,7 @@ use second::vectors::rng::Rng;
 use second::vectors::Suite;
 use std::env;
 
-/// How many dumps are made, if COMPARE_DUMPS does not say it. With fewer than some 3,000 not every
+/// How many dumps are made, if COMPARE_DUMPS does not say it. With fewer than some 4,000 not every
 /// answer is met.
 const DUMPS: u64 = 120_000;
 
@@ -37,6 +37,14 @@ fn is_telling(tally: &Tally) {
     assert!(tally.changed * 3 > tally.cuts[0], "few cuts change something:\n{tally}");
     assert!(tally.twice * 4 > tally.dumps, "few cuts of cuts:\n{tally}");
     assert!(tally.joined * 4 > tally.dumps, "few dumps end to end:\n{tally}");
+    let [accepted, refused] = tally.of_fields();
+    let is_harmless = |[_, refused]: &[u64; 2]| *refused == 0;
+    assert!(!tally.fields.contains(&[0; 2]), "a field that was never damaged:\n{tally}");
+    assert!(!tally.fields.iter().any(is_harmless), "a field never damaged to harm:\n{tally}");
+    assert!(
+        accepted * 2 > refused && refused * 2 > accepted,
+        "mostly one answer to damaged fields:\n{tally}"
+    );
     assert!(tally.records > tally.dumps && tally.items > tally.dumps, "few records:\n{tally}");
 }
 

@@ -2,10 +2,14 @@
 
 mod asks;
 mod damage;
+mod field_damage;
+mod fields;
+mod layout;
 mod long;
 mod records;
 
 pub use asks::{ask, Known};
+pub use fields::Field;
 pub use records::Maker;
 
 use second::cut_cases;
@@ -25,6 +29,8 @@ pub enum Kind {
     Edges,
     /// Good records, then octets changed, put in or taken out with no regard to fields.
     Damaged,
+    /// Good records, of which one named field is damaged: what a fast look must not let pass.
+    Fields,
     /// The second program's own good dumps, which other hands have made.
     Foreign,
     /// Many records, entries and peers: sizes that do not fit in one or two octets.
@@ -32,12 +38,13 @@ pub enum Kind {
 }
 
 impl Kind {
-    pub const ALL: [Kind; 7] = [
+    pub const ALL: [Kind; 8] = [
         Kind::Octets,
         Kind::Headers,
         Kind::Good,
         Kind::Edges,
         Kind::Damaged,
+        Kind::Fields,
         Kind::Foreign,
         Kind::Long,
     ];
@@ -47,17 +54,19 @@ impl Kind {
         if rng.below(1500) == 0 {
             return Kind::Long;
         }
-        match rng.below(20) {
+        match rng.below(26) {
             0 | 1 => Kind::Octets,
             2..=4 => Kind::Headers,
             5..=9 => Kind::Good,
             10..=13 => Kind::Edges,
             14..=17 => Kind::Damaged,
+            18..=23 => Kind::Fields,
             _ => Kind::Foreign,
         }
     }
 
-    fn dump(self, rng: &mut Rng) -> Vec<u8> {
+    /// `field` is the one to be damaged, where it is to be one.
+    fn dump(self, field: Field, rng: &mut Rng) -> Vec<u8> {
         match self {
             Kind::Octets => {
                 let size = rng.below(101);
@@ -73,6 +82,7 @@ impl Kind {
                 let dump = good(rng);
                 damage::damaged(dump, rng)
             }
+            Kind::Fields => field_damage::dump(field, rng),
             Kind::Foreign => cut_cases::random::dump(rng),
             Kind::Long => long::dump(rng),
         }
@@ -81,12 +91,20 @@ impl Kind {
 
 pub struct Made {
     pub kind: Kind,
+    /// The one that is damaged, in a dump of [`Kind::Fields`].
+    pub field: Option<Field>,
     pub dump: Vec<u8>,
 }
 
 pub fn any(rng: &mut Rng) -> Made {
-    let kind = Kind::draw(rng);
-    Made { kind, dump: kind.dump(rng) }
+    let (kind, field) = (Kind::draw(rng), *rng.pick(&Field::ALL));
+    let dump = kind.dump(field, rng);
+    Made { kind, field: (kind == Kind::Fields).then_some(field), dump }
+}
+
+/// So many dumps that differ from one good dump in a field each.
+pub fn with_fields_damaged(count: usize, rng: &mut Rng) -> Vec<Vec<u8>> {
+    field_damage::dumps(count, rng)
 }
 
 /// A short dump without a fault.
