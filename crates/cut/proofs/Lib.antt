@@ -1,3 +1,4 @@
 pub mod Laws
+pub mod Fated
 pub mod One
-pub mod Pass
+pub mod Turn

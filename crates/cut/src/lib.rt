@@ -1,379 +1,422 @@
 // The cut: what is left of a dump inside a time window, without the peers on a list.
+// Behind the check the dump, d, is known to be good, and its records are only looked at.
 ghost use mathlib.Core.Path.{_≡_};
-ghost use mathlib.Core.Bool.{_&&_, not, cond};
-ghost use Prim.Native.Nat.{_+_, _^_, _≤_, _<_};
-ghost use lib.Dec.{leb, ltb};
+ghost use mathlib.Core.Bool.{_&&_, _||_, not, cond, true};
+ghost use Prim.Native.Nat.{_+_, _-_, _≤_, _<_};
+ghost use lib.Dec.{leb, ltb, eqb};
 ghost use lib.ListN.{length, drop};
 ghost use Rattle.form.specs.Record.{next};
-ghost use Rattle.form.specs.Dump.{writes, Splits};
+ghost use Rattle.form.specs.Dump.{Splits};
 ghost use Rattle.page.specs.Rib.{entry};
 ghost use Rattle.page.specs.Peers.{peer};
-ghost use Rattle.reading.specs.Answer.{place};
-ghost use Rattle.copy.specs.Over.{over};
-ghost use Rattle.cutting.specs.Cut.{mem, cutting};
-ghost use Rattle.moving.specs.Found.{Lie};
-ghost use Rattle.moving.specs.One.{cutOne};
-ghost use Rattle.cut_laws.specs.Answer.{leftOf, cutAnswer, leaves};
-ghost use Rattle.cut.specs.State.{mrt, stateOf, tableOf, shownAt, recAt};
-ghost use Rattle.cut.specs.Left.{leftOctets, Sound, Small, sizeOf, frontLeft, PeersOf, EntriesOf};
-ghost use Rattle.cut.specs.Stands.{InStep, Stands, Measures};
-ghost use Rattle.cut.specs.declared.Left.the-variants.{Gone, Whole};
+ghost use Rattle.cutting.specs.Cut.{mem};
+ghost use Rattle.form.specs.Found.{Lie};
+ghost use Rattle.moving.specs.Laid.{laid, Room, between, Passed};
+ghost use Rattle.cut_laws.specs.Answer.{leftOf, cutted, holds, cutAnswer, leaves};
+ghost use Rattle.look.specs.Sort as sort;
+ghost use Rattle.look.specs.Sort.{sortOf, isTable};
+ghost use Rattle.look.specs.Field.{typeOf, subtypeOf, timeOf, itemsAt, countOf, Is, Shows};
+ghost use Rattle.cut.specs.State.{mrt, stateOf, shownAt, recAt};
+ghost use Rattle.cut.specs.Fate.{fateOf, frontLeft, tableLeft, ribLeft, octetsOf, Sound};
+ghost use Rattle.cut.specs.Stands.{InStep, Stands};
+ghost use Rattle.cut.specs.declared.Fate.the-variants as fated;
 use blocks::copy_blocks;
-use copy::copy;
 use cut_items::fill_news;
+use cut_items::lay_entries;
+use cut_items::lay_peers;
 use cut_items::listed;
-use cut_items::measure_entries;
-use cut_items::measure_peers;
-use cut_items::write_entries;
-use cut_items::write_peers;
 use cutting::Cutted;
+use look::count;
+use look::end_at;
+use look::entry_count_at;
+use look::is_peer_table;
+use look::late_session_peer;
+use look::micros;
+use look::peer_count_at;
+use look::route_peer;
+use look::seconds;
+use look::session_peer;
+use look::subtype_of;
+use look::type_of;
 use num::put_number;
-use outline::Outline;
-use outline::end_at;
-use outline::outline_at;
-use shown::Table;
-use walk::step_at;
-use walking::Step;
+use walk::walk;
 
-// The table in force: whether there is one, where its peers start in the dump, and how many they are.
+// Times from start up to but not including end.
+pub struct Window {
+    pub start: u64,
+    pub end: u64,
+}
+
+// The table in force: whether there is one, where its peers start in the dump, how many they are, and whether any of them goes.
 pub struct InForce {
     pub seen: bool,
     pub from: usize,
     pub count: u64,
+    pub lost: bool,
 }
 
-// Items of a record, where they start and how many they are, for entries how many peers the table has; octets before their count;
-// how many stay, and how many octets those have.
-pub struct Items {
-    pub from: usize,
-    pub count: u64,
-    pub peers: u64,
-    pub front: usize,
-    pub kept: u64,
-    pub octets: usize,
+// What becomes of a record.
+pub enum Fate {
+    // it stays as it is
+    Stays,
+    Goes,
+    // a table or a RIB record that is laid item by item: where they start behind the record's start, and how many they are
+    Peers(usize, u64),
+    Entries(usize, u64),
 }
 
-// What is left of a record: nothing, all of its octets, or fewer items.
-pub enum Left {
-    Gone,
-    Whole(usize),
-    Peers(Items),
-    Entries(Items),
+// How far the cut has come: records from `run` on stay, and are to be laid at `put`.
+pub struct Far {
+    pub run: usize,
+    pub put: usize,
 }
 
-fn told(f: InForce) -> Table
-    ensures { λ r. ⌜ r ≡ tableOf f ⌝ }
+// ---- what becomes of a record
+
+fn inside(time: u64, w: Window) -> bool
+    ensures { λ r. ⌜ r ≡ (leb (w .start) time && ltb time (w .end)) ⌝ }
 {
-    let seen = f.seen;
-    let count = f.count;
-    if seen {
-        return Table::Holds(count);
-    }
-    Table::Absent
-}
-
-// Whether a time is in the window.
-fn inside(time: u64, start: u64, end: u64) -> bool
-    ensures { λ r. ⌜ r ≡ (leb start time && ltb time end) ⌝ }
-{
+    let start = w.start;
+    let end = w.end;
     if time < start {
         return false;
     }
     time < end
 }
 
-// What the first pass finds: how many octets are left, or the dump's fault.
-pub enum Measured {
-    Total(usize),
-    Fault(u8, usize),
-}
-
-fn whole_if(keep: bool, size: usize) -> Left
-    ensures { λ r. ⌜ r ≡ cond keep (Whole size) Gone ⌝ }
+// A record that its time alone decides.
+fn timed(time: u64, w: Window) -> Fate
+    ensures { λ r. ⌜ r ≡ cond (leb (w .start) time && ltb time (w .end)) fated.Stays fated.Goes ⌝ }
 {
-    if keep {
-        return Left::Whole(size);
+    if inside(time, w) {
+        return Fate::Stays;
     }
-    Left::Gone
+    Fate::Goes
 }
 
-// Whether a record stays that its peer AS decides.
-fn stays(time: u64, peer: u64, start: u64, end: u64, mutes: &[u32]) -> bool
-    ensures { λ r. ⌜ r ≡ ((leb start time && ltb time end) && not (mem peer (now (mutes .entry)))) ⌝ }
+// A record that its time and its peer AS decide.
+fn heard(time: u64, peer: u64, w: Window, mutes: &[u32]) -> Fate
+    ensures { λ r. ⌜ r ≡ cond ((leb (w .start) time && ltb time (w .end)) && not (mem peer (now (mutes .entry)))) fated.Stays fated.Goes ⌝ }
 {
-    if inside(time, start, end) {
+    if inside(time, w) {
         if listed(peer, mutes) {
-            return false;
+            return Fate::Goes;
         }
-        return true;
+        return Fate::Stays;
     }
-    false
+    Fate::Goes
 }
 
-fn peers_of(d: &[u8], at: usize, off: usize, count: u64, mutes: &[u32]) -> Left
-    requires { ⌜ (14 ≤ off) × (at + off ≤ length (now d)) × Lie peer count (drop (at + off) (now d)) ⌝ }
-    ensures { λ r. ⌜ PeersOf (now (mutes .entry)) (now (d .entry)) at off count r ⌝ }
+// A peer table: it stays, and loses the peers that go.
+fn table_fate(d: &[u8], at: usize, lost: bool) -> Fate
+    requires { ⌜ Is (now d) at (λ x. sortOf x ≡ sort.table) ⌝ }
+    ensures { λ r. ⌜ Shows (now (d .entry)) at (λ x. r ≡ cond lost (fated.Peers (itemsAt x) (countOf x)) fated.Stays) ⌝ }
 {
-    let from = at + off;
-    let k = measure_peers(d, from, count, mutes);
-    let kept = k.count;
-    let octets = k.octets;
-    Left::Peers(Items {
-        from,
-        count,
-        peers: 0,
-        front: off - 14,
-        kept,
-        octets,
-    })
+    if lost {
+        let counted = peer_count_at(d, at);
+        return Fate::Peers(counted + 2 - at, count(d, counted));
+    }
+    Fate::Stays
 }
 
-fn entries_of(d: &[u8], at: usize, off: usize, count: u64, peers: u64, news: &[u32]) -> Left
-    requires { ⌜ (14 ≤ off) × (at + off ≤ length (now d)) × Lie (entry peers) count (drop (at + off) (now d)) × (peers ≤ length (now news)) ⌝ }
-    ensures { λ r. ⌜ EntriesOf (now (news .entry)) (now (d .entry)) at off count peers r ⌝ }
+// A RIB record.
+fn rib_fate(d: &[u8], at: usize, subtype: u64, w: Window, lost: bool) -> Fate
+    requires { ⌜ Is (now d) at (λ x. (sortOf x ≡ sort.rib) × (subtypeOf x ≡ subtype)) ⌝ }
+    ensures { λ r. ⌜ Shows (now (d .entry)) at (λ x. r ≡ cond (leb (w .start) (timeOf x) && ltb (timeOf x) (w .end)) (cond lost (fated.Entries (itemsAt x) (countOf x)) fated.Stays) fated.Goes) ⌝ }
 {
-    let from = at + off;
-    let k = measure_entries(d, from, count, peers, news);
-    let kept = k.count;
-    let octets = k.octets;
-    if 0 < count {
-        if kept == 0 {
-            return Left::Gone;
+    if inside(seconds(d, at), w) {
+        if lost {
+            let counted = entry_count_at(d, at, subtype);
+            return Fate::Entries(counted + 2 - at, count(d, counted));
         }
+        return Fate::Stays;
     }
-    Left::Entries(Items {
-        from,
-        count,
-        peers,
-        front: off - 14,
-        kept,
-        octets,
-    })
+    Fate::Goes
 }
 
-// What is left of the record of `size` octets that stands at `at`; o is its outline.
-fn left_of(
-    d: &[u8],
-    at: usize,
-    size: usize,
-    o: Outline,
-    f: InForce,
-    start: u64,
-    end: u64,
-    mutes: &[u32],
-    news: &[u32],
-) -> Left
-    requires { ⌜ Stands (now mutes) (now news) (now d) at f o ⌝ }
-    requires { ⌜ size ≡ place (shownAt (now d) f at) ⌝ }
-    ensures { λ r. ⌜ (leftOctets (now (mutes .entry)) (now (news .entry)) (now (d .entry)) at r ≡ writes (cutOne mrt (cutting start end (now (mutes .entry))) (stateOf (now (d .entry)) f) (recAt (now (d .entry)) f at))) × Sound (now (mutes .entry)) (now (news .entry)) (now (d .entry)) at r ⌝ }
+// The record at `at`, of this type and subtype; `lost` says whether a peer of the table in force behind it goes.
+fn fate_of(d: &[u8], at: usize, ty: u64, subtype: u64, w: Window, mutes: &[u32], lost: bool) -> Fate
+    requires { ⌜ Is (now d) at (λ x. (typeOf x ≡ ty) × (subtypeOf x ≡ subtype)) ⌝ }
+    ensures { λ r. ⌜ Shows (now (d .entry)) at (λ x. r ≡ fateOf (w .start) (w .end) (now (mutes .entry)) lost x) ⌝ }
 {
-    let peers = f.count;
-    match o {
-        Outline::Unread(time) => whole_if(inside(time, start, end), size),
-        Outline::Peer(time, peer) => whole_if(stays(time, peer, start, end, mutes), size),
-        Outline::Table(off, count) => peers_of(d, at, off, count, mutes),
-        Outline::Rib(time, off, count) => {
-            if inside(time, start, end) {
-                return entries_of(d, at, off, count, peers, news);
+    match ty {
+        16 => heard(seconds(d, at), session_peer(d, at, subtype), w, mutes),
+        17 => heard(micros(d, at), late_session_peer(d, at, subtype), w, mutes),
+        12 => heard(seconds(d, at), route_peer(d, at, subtype), w, mutes),
+        13 => {
+            if subtype == 1 {
+                return table_fate(d, at, lost);
             }
-            Left::Gone
+            rib_fate(d, at, subtype, w, lost)
         }
+        33 | 49 => timed(micros(d, at), w),
+        _ => timed(seconds(d, at), w),
     }
 }
 
-// How many octets that has.
-fn size_of(l: Left) -> usize
-    requires { ⌜ Small l ⌝ }
-    ensures { λ r. ⌜ r ≡ sizeOf l ⌝ }
+// ---- laying
+
+// Lays the octets from `from` to `to` at `put`; answers where they end. Unless `lays` they are only counted.
+fn lay(d: &[u8], from: usize, to: usize, out: &mut [u8], put: usize, lays: bool) -> usize
+    requires { ⌜ (from ≤ to) × (to ≤ length (now d)) × (put ≤ from) ⌝ }
+    requires { ⌜ Room lays (now out) put (to - from) ⌝ }
+    ensures { λ r. ⌜ (r ≡ put + (to - from)) × (now (out .exit) ≡ laid lays (now (out .entry)) put (between (now (d .entry)) from to)) ⌝ }
 {
-    match l {
-        Left::Gone => 0,
-        Left::Whole(size) => size,
-        Left::Peers(i) => {
-            let front = i.front;
-            let octets = i.octets;
-            14 + front + octets
-        }
-        Left::Entries(i) => {
-            let front = i.front;
-            let octets = i.octets;
-            14 + front + octets
-        }
+    if from == to {
+        return put;
     }
+    let size = to - from;
+    if lays {
+        copy_blocks(d, from, size, out, put);
+        return put + size;
+    }
+    put + size
 }
 
-// Lays a record's header, its corrected Length, the fields before the count, and the corrected count; answers where they end.
-fn put_front(d: &[u8], at: usize, i: Items, out: &mut [u8], put: usize) -> usize
-    requires { ⌜ (at + i .front + 14 ≤ length (now d)) × (put + i .front + 14 ≤ length (now out)) × (i .front + 2 + i .octets < 256 ^ 4) ⌝ }
-    ensures { λ r. ⌜ (r ≡ put + i .front + 14) × (now (out .exit) ≡ over (now (out .entry)) put (frontLeft (now (d .entry)) at i)) ⌝ }
-{
-    let front = i.front;
-    let octets = i.octets;
-    let kept = i.kept;
-    let b = put + 8;
-    let e = put + 12;
-    let g = e + front;
-    copy(d, at, 8, out, put);
-    put_number(out, b, 4, (front + 2 + octets) as u64);
-    copy(d, at + 12, front, out, e);
-    put_number(out, g, 2, kept);
-    g + 2
-}
-
-// Lays what is left of a record from `put` on; answers where it ends.
-fn put_left(
+// Lays a record's octets up to its count, which stands at `counted`, and corrects Length and count; its items are laid up to `end`.
+fn lay_front(
     d: &[u8],
     at: usize,
-    l: Left,
-    mutes: &[u32],
-    news: &[u32],
+    counted: usize,
+    kept: u64,
     out: &mut [u8],
     put: usize,
-) -> usize
-    requires { ⌜ Sound (now mutes) (now news) (now d) at l ⌝ }
-    requires { ⌜ put + length (leftOctets (now mutes) (now news) (now d) at l) ≤ length (now out) ⌝ }
-    ensures { λ r. ⌜ (r ≡ put + length (leftOctets (now (mutes .entry)) (now (news .entry)) (now (d .entry)) at l)) × (now (out .exit) ≡ over (now (out .entry)) put (leftOctets (now (mutes .entry)) (now (news .entry)) (now (d .entry)) at l)) ⌝ }
+    end: usize,
+    lays: bool,
+)
+    requires { ⌜ (at + 12 ≤ counted) × (counted ≤ length (now d)) × (put ≤ at) × (put + (counted - at + 2) ≤ end) ⌝ }
+    requires { ⌜ Room lays (now out) put (counted - at + 2) ⌝ }
+    ensures { λ _. ⌜ now (out .exit) ≡ laid lays (now (out .entry)) put (frontLeft (now (d .entry)) at (counted - at - 12) (end - put - 12) kept) ⌝ }
 {
-    match l {
-        Left::Gone => put,
-        Left::Whole(size) => {
-            copy_blocks(d, at, size, out, put);
-            put + size
+    if lays {
+        let size = counted - at;
+        copy_blocks(d, at, size, out, put);
+        put_number(out, put + 8, 4, (end - put - 12) as u64);
+        put_number(out, put + size, 2, kept);
+        return;
+    }
+}
+
+// Whether a RIB record is left: one of its entries stayed, or it came with none.
+fn remains(kept: u64, count: u64) -> bool
+    ensures { λ r. ⌜ r ≡ (eqb count 0 || ltb 0 kept) ⌝ }
+{
+    if count == 0 {
+        return true;
+    }
+    0 < kept
+}
+
+// Lays a RIB record: its entries behind room for the rest, which follows if any of them stayed or it came with none.
+fn lay_rib(
+    d: &[u8],
+    at: usize,
+    off: usize,
+    count: u64,
+    peers: u64,
+    news: &[u16; 65536],
+    out: &mut [u8],
+    put: usize,
+    lays: bool,
+) -> usize
+    requires { ⌜ (14 ≤ off) × (at + off ≤ length (now d)) × Lie (entry peers) count (drop (at + off) (now d)) ⌝ }
+    requires { ⌜ put ≤ at ⌝ }
+    requires { ⌜ Room lays (now out) put (length (ribLeft (now news) (now d) at off count peers)) ⌝ }
+    ensures { λ r. ⌜ (r ≡ put + length (ribLeft (now (news .entry)) (now (d .entry)) at off count peers)) × (now (out .exit) ≡ laid lays (now (out .entry)) put (ribLeft (now (news .entry)) (now (d .entry)) at off count peers)) ⌝ }
+{
+    let from = at + off;
+    let room = put + off;
+    let items = lay_entries(d, from, count, peers, news, out, room, lays);
+    let kept = items.kept;
+    let end = items.end;
+    if remains(kept, count) {
+        lay_front(d, at, from - 2, kept, out, put, end, lays);
+        return end;
+    }
+    put
+}
+
+// Lays a peer table.
+fn lay_table(
+    d: &[u8],
+    at: usize,
+    off: usize,
+    count: u64,
+    news: &[u16; 65536],
+    out: &mut [u8],
+    put: usize,
+    lays: bool,
+) -> usize
+    requires { ⌜ (14 ≤ off) × (at + off ≤ length (now d)) × (count < 65536) × Lie peer count (drop (at + off) (now d)) ⌝ }
+    requires { ⌜ put ≤ at ⌝ }
+    requires { ⌜ Room lays (now out) put (length (tableLeft (now news) (now d) at off count)) ⌝ }
+    ensures { λ r. ⌜ (r ≡ put + length (tableLeft (now (news .entry)) (now (d .entry)) at off count)) × (now (out .exit) ≡ laid lays (now (out .entry)) put (tableLeft (now (news .entry)) (now (d .entry)) at off count)) ⌝ }
+{
+    let from = at + off;
+    let room = put + off;
+    let items = lay_peers(d, from, count, news, out, room, lays);
+    let kept = items.kept;
+    let end = items.end;
+    lay_front(d, at, from - 2, kept, out, put, end, lays);
+    end
+}
+
+// ---- one record passed, from `at` to `next`
+
+// It stays: neighbours are laid together, some 8,192 octets at a time, while they are near.
+fn pass_whole(d: &[u8], at: usize, next: usize, s: Far, out: &mut [u8], lays: bool) -> Far
+    requires { ⌜ (s .put ≤ s .run) × (s .run ≤ at) × (at ≤ next) × (next ≤ length (now d)) ⌝ }
+    requires { ⌜ Room lays (now out) (s .put) (next - s .run) ⌝ }
+    ensures { λ r. ⌜ Passed lays (now (d .entry)) (now (out .entry)) (now (out .exit)) (between (now (d .entry)) at next) at next (s .run) (s .put) (r .run) (r .put) ⌝ }
+{
+    let run = s.run;
+    let put = s.put;
+    if 8192 < next - run {
+        let end = lay(d, run, next, out, put, lays);
+        return Far {
+            run: next,
+            put: end,
+        };
+    }
+    s
+}
+
+// What becomes of it is told; the table in force has so many peers.
+fn pass(
+    d: &[u8],
+    at: usize,
+    next: usize,
+    x: Fate,
+    peers: u64,
+    news: &[u16; 65536],
+    s: Far,
+    out: &mut [u8],
+    lays: bool,
+) -> Far
+    requires { ⌜ (s .put ≤ s .run) × (s .run ≤ at) × (at ≤ next) × (next ≤ length (now d)) ⌝ }
+    requires { ⌜ Sound (now d) at peers x ⌝ }
+    requires { ⌜ Room lays (now out) (s .put) (at - s .run + length (octetsOf (now news) (now d) at next peers x)) ⌝ }
+    ensures { λ r. ⌜ Passed lays (now (d .entry)) (now (out .entry)) (now (out .exit)) (octetsOf (now (news .entry)) (now (d .entry)) at next peers x) at next (s .run) (s .put) (r .run) (r .put) ⌝ }
+{
+    let run = s.run;
+    let put = s.put;
+    match x {
+        Fate::Stays => pass_whole(d, at, next, s, out, lays),
+        Fate::Goes => {
+            let end = lay(d, run, at, out, put, lays);
+            Far {
+                run: next,
+                put: end,
+            }
         }
-        Left::Peers(i) => {
-            let from = i.from;
-            let count = i.count;
-            let next = put_front(d, at, i, out, put);
-            write_peers(d, from, count, mutes, out, next)
+        Fate::Peers(off, count) => {
+            let here = lay(d, run, at, out, put, lays);
+            let end = lay_table(d, at, off, count, news, out, here, lays);
+            Far {
+                run: next,
+                put: end,
+            }
         }
-        Left::Entries(i) => {
-            let from = i.from;
-            let count = i.count;
-            let peers = i.peers;
-            let next = put_front(d, at, i, out, put);
-            write_entries(d, from, count, peers, news, out, next)
+        Fate::Entries(off, count) => {
+            let here = lay(d, run, at, out, put, lays);
+            let end = lay_rib(d, at, off, count, peers, news, out, here, lays);
+            Far {
+                run: next,
+                put: end,
+            }
         }
     }
 }
 
-// The table in force behind a record whose outline is o; news are filled anew at a peer table.
+// The table in force behind the record at `at`, before which f is; news are filled anew at a peer table.
 fn table_behind(
     d: &[u8],
     at: usize,
-    o: Outline,
+    table: bool,
     f: InForce,
     mutes: &[u32],
-    news: &mut [u32],
+    news: &mut [u16; 65536],
 ) -> InForce
-    requires { ⌜ Stands (now mutes) (now news) (now d) at f o ⌝ }
+    requires { ⌜ Stands (now mutes) (now news) (now d) at f ⌝ }
+    requires { ⌜ table ≡ isTable (sortOf (shownAt (now d) f at)) ⌝ }
     requires { ⌜ length (now news) ≡ 65536 ⌝ }
-    ensures { λ r. ⌜ (stateOf (now (d .entry)) r ≡ next mrt (recAt (now (d .entry)) f at) (stateOf (now (d .entry)) f)) × InStep (now (mutes .entry)) (now (news .exit)) (now (d .entry)) r ⌝ }
+    ensures { λ r. ⌜ (stateOf (now (d .entry)) r ≡ next mrt (recAt (now (d .entry)) f at) (stateOf (now (d .entry)) f)) × InStep (now (mutes .entry)) (now (news .exit)) (now (d .entry)) r × (length (now (news .exit)) ≡ 65536) ⌝ }
 {
-    let Outline::Table(off, count) = o else {
-        return f;
-    };
-    let from = at + off;
-    fill_news(d, from, count, mutes, news);
-    InForce {
-        seen: true,
-        from,
-        count,
+    if table {
+        let counted = peer_count_at(d, at);
+        let from = counted + 2;
+        let peers = count(d, counted);
+        let kept = fill_news(d, from, peers, mutes, news);
+        return InForce {
+            seen: true,
+            from,
+            count: peers,
+            lost: kept < peers,
+        };
     }
+    f
 }
 
-fn size_if(keep: bool, size: usize) -> usize
-    ensures { λ r. ⌜ r ≡ sizeOf (cond keep (Whole size) Gone) ⌝ }
-{
-    if keep {
-        return size;
-    }
-    0
-}
-
-// How many octets are left of the record of `size` octets that stands at `at`; o is its outline. Said beside left_of, so that each of
-// the two has one caller, into which the compiler puts it.
-fn size_left(
+// What is left of d, laid or only counted; answers how many octets it has.
+fn leave(
     d: &[u8],
-    at: usize,
-    size: usize,
-    o: Outline,
-    f: InForce,
-    start: u64,
-    end: u64,
+    w: Window,
     mutes: &[u32],
-    news: &[u32],
+    news: &mut [u16; 65536],
+    out: &mut [u8],
+    lays: bool,
 ) -> usize
-    requires { ⌜ Stands (now mutes) (now news) (now d) at f o ⌝ }
-    requires { ⌜ size ≡ place (shownAt (now d) f at) ⌝ }
-    ensures { λ r. ⌜ r ≡ length (writes (cutOne mrt (cutting start end (now (mutes .entry))) (stateOf (now (d .entry)) f) (recAt (now (d .entry)) f at))) ⌝ }
-{
-    let peers = f.count;
-    match o {
-        Outline::Unread(time) => size_if(inside(time, start, end), size),
-        Outline::Peer(time, peer) => size_if(stays(time, peer, start, end, mutes), size),
-        Outline::Table(off, count) => size_of(peers_of(d, at, off, count, mutes)),
-        Outline::Rib(time, off, count) => {
-            if inside(time, start, end) {
-                return size_of(entries_of(d, at, off, count, peers, news));
-            }
-            0
-        }
-    }
-}
-
-// The first pass: checks the dump and measures what is left of it.
-fn measure(d: &[u8], start: u64, end: u64, mutes: &[u32], news: &mut [u32]) -> Measured
-    requires { ⌜ length (now news) ≡ 65536 ⌝ }
-    ensures { λ r. ⌜ Measures start end (now (mutes .entry)) (now (d .entry)) r ⌝ }
-{
-    let mut at = 0;
-    let mut total = 0;
-    let mut f = InForce {
-        seen: false,
-        from: 0,
-        count: 0,
-    };
-    loop {
-        match step_at(d, at, told(f)) {
-            Step::End => {
-                return Measured::Total(total);
-            }
-            Step::Fault(n, p) => {
-                return Measured::Fault(n, p);
-            }
-            Step::Record(i, _) => {
-                let next = i.next;
-                let o = outline_at(d, at, told(f));
-                total += size_left(d, at, next - at, o, f, start, end, mutes, news);
-                f = table_behind(d, at, o, f, mutes, news);
-                at = next;
-            }
-        }
-    }
-}
-
-// The second pass: lays what is left. The dump is known to be good, and not checked again.
-fn write_cut(d: &[u8], start: u64, end: u64, mutes: &[u32], news: &mut [u32], out: &mut [u8])
     requires { ⌜ Splits mrt (now d) ⌝ }
     requires { ⌜ length (now news) ≡ 65536 ⌝ }
-    requires { ⌜ length (leftOf 4096 start end (now mutes) (now d)) ≤ length (now out) ⌝ }
-    ensures { λ _. ⌜ now (out .exit) ≡ over (now (out .entry)) 0 (leftOf 4096 start end (now (mutes .entry)) (now (d .entry))) ⌝ }
+    requires { ⌜ (lays ≡ true → length (leftOf 4096 (w .start) (w .end) (now mutes) (now d)) ≤ length (now out)) ⌝ }
+    ensures { λ r. ⌜ (r ≡ length (leftOf 4096 (w .start) (w .end) (now (mutes .entry)) (now (d .entry)))) × (now (out .exit) ≡ laid lays (now (out .entry)) 0 (leftOf 4096 (w .start) (w .end) (now (mutes .entry)) (now (d .entry)))) × (length (now (news .exit)) ≡ 65536) ⌝ }
 {
     let mut at = 0;
-    let mut put = 0;
+    let mut s = Far { run: 0, put: 0 };
     let mut f = InForce {
         seen: false,
         from: 0,
         count: 0,
+        lost: false,
     };
     while at < d.len() {
-        let next = end_at(d, at, told(f));
-        let o = outline_at(d, at, told(f));
-        let l = left_of(d, at, next - at, o, f, start, end, mutes, news);
-        put = put_left(d, at, l, mutes, news, out, put);
-        f = table_behind(d, at, o, f, mutes, news);
+        let ty = type_of(d, at);
+        let subtype = subtype_of(d, at);
+        f = table_behind(d, at, is_peer_table(ty, subtype), f, mutes, news);
+        let next = end_at(d, at);
+        let lost = f.lost;
+        let peers = f.count;
+        let x = fate_of(d, at, ty, subtype, w, mutes, lost);
+        s = pass(d, at, next, x, peers, news, s, out, lays);
         at = next;
     }
+    let run = s.run;
+    let put = s.put;
+    lay(d, run, at, out, put, lays)
+}
+
+// Whether what is left of a dump goes into out. It is never longer than the dump, and is measured only for a shorter buffer.
+fn fits(dump: &[u8], w: Window, mutes: &[u32], news: &mut [u16; 65536], out: &mut [u8]) -> bool
+    requires { ⌜ Splits mrt (now dump) ⌝ }
+    requires { ⌜ length (now news) ≡ 65536 ⌝ }
+    ensures { λ r. ⌜ (r ≡ leb (length (leftOf 4096 (w .start) (w .end) (now (mutes .entry)) (now (dump .entry)))) (length (now (out .entry)))) × (now (out .exit) ≡ now (out .entry)) × (length (now (news .exit)) ≡ 65536) ⌝ }
+{
+    if out.len() < dump.len() {
+        return leave(dump, w, mutes, news, out, false) <= out.len();
+    }
+    true
+}
+
+// The cut of a dump that is good.
+fn left_of(dump: &[u8], w: Window, mutes: &[u32], out: &mut [u8]) -> Cutted
+    requires { ⌜ Splits mrt (now dump) ⌝ }
+    ensures { λ r. ⌜ (r ≡ cutted 0 0 (leftOf 4096 (w .start) (w .end) (now (mutes .entry)) (now (dump .entry))) (now (out .entry))) × (now (out .exit) ≡ holds 0 (leftOf 4096 (w .start) (w .end) (now (mutes .entry)) (now (dump .entry))) (now (out .entry))) ⌝ }
+{
+    let mut news = [0u16; 65536];
+    if fits(dump, w, mutes, &mut news, out) {
+        return Cutted::Octets(leave(dump, w, mutes, &mut news, out, true));
+    }
+    Cutted::Refused(15, 0)
 }
 
 // What is left of a dump inside the window from start up to but not including end, without the peers whose AS is on the list.
@@ -383,17 +426,11 @@ pub fn cut(dump: &[u8], start: u64, end: u64, mutes: &[u32], out: &mut [u8]) -> 
     if end < start {
         return Cutted::Refused(14, 0);
     }
-    let mut news = [0u32; 65536];
-    match measure(dump, start, end, mutes, &mut news) {
-        Measured::Fault(n, p) => {
-            return Cutted::Refused(n, p);
-        }
-        Measured::Total(n) => {
-            if out.len() < n {
-                return Cutted::Refused(15, 0);
-            }
-            write_cut(dump, start, end, mutes, &mut news, out);
-            return Cutted::Octets(n);
-        }
+    let checked = walk(dump);
+    let fault = checked.fault;
+    let place = checked.place;
+    if 0 < fault {
+        return Cutted::Refused(fault, place);
     }
+    left_of(dump, Window { start, end }, mutes, out)
 }

@@ -2,7 +2,7 @@
 use mathlib.Core.Path.{_≡_, refl, sym, ap, _∙_}
 use mathlib.Core.Bool.{Bool, true, false, cond}
 use mathlib.Core.List.{List, [], _∷_, _++_}
-use Prim.Native.Nat.{ℕ, _+_, _-_, _≤_, _<_}
+use Prim.Native.Nat.{ℕ, suc, _+_, _-_, _≤_, _<_}
 use native.Mathlib.Omega.{arith}
 use lib.ListN.{length, drop, getD, length-append}
 use lib.Dec.{leb}
@@ -10,28 +10,29 @@ use Rattle.form.specs.Octets.{Octets}
 use Rattle.form.specs.Fmt.{Fmt, Fits, join}
 use Rattle.form.specs.Body.{joins}
 use Rattle.form.proofs.Octets.{octets-drop}
-use Rattle.cutting.specs.Keep.{consUnless, kept}
-use Rattle.cutting.specs.Cut.{indexOf, renumber}
+use Rattle.cutting.specs.Keep.{consUnless}
+use Rattle.cutting.specs.Cut.{renumber}
+use Rattle.form.specs.Shape.{indexOf}
 use Rattle.cutting.proofs.Cut.{renumber-length}
 use Rattle.page.specs.Rib.{entryRest, entry}
-use Rattle.copy.specs.Over.{over}
-use Rattle.copy.proofs.Laws.{length-over, over-over, over-none}
-use Rattle.moving.specs.Found.{Lie, items, item}
-use Rattle.moving.specs.Moved.{moved}
-use Rattle.moving.proofs.Found.{Here, leftN, here-of, tail, Next, next, none-left}
+use Rattle.form.specs.Found.{Lie, items, item}
+use Rattle.moving.specs.Moved.{moved, sieved}
+use Rattle.moving.specs.Laid.{laid, Roomy}
+use Rattle.form.proofs.Found.{Here, leftN, here-of, tail, Next, next, none-left}
+use Rattle.moving.proofs.Laid.{laid-nothing, laid-behind-some, length-laid}
 
--- what stays of items: each goes, or stays as another with as many octets
-pub record Sieve (f : Fmt) (stay : List (List (List ℕ)) → List (List (List ℕ))) (gone : List (List ℕ) → Bool) (new : List (List ℕ) → List (List ℕ)) : Type 0 where
-  pub none : stay [] ≡ []
-  pub each : (it : List (List ℕ)) (its : List (List (List ℕ))) → stay (it ∷ its) ≡ consUnless (gone it) (new it) (stay its)
+-- what stays of items, the first of which is the i-th: each goes, or stays as another with as many octets
+pub record Sieve (f : Fmt) (stay : ℕ → List (List (List ℕ)) → List (List (List ℕ))) (gone : ℕ → List (List ℕ) → Bool) (new : List (List ℕ) → List (List ℕ)) : Type 0 where
+  pub none : (i : ℕ) → stay i [] ≡ []
+  pub each : (i : ℕ) (it : List (List ℕ)) (its : List (List (List ℕ))) → stay i (it ∷ its) ≡ consUnless (gone i it) (new it) (stay (i + 1) its)
   pub same : (it : List (List ℕ)) → Fits f it → length (join (new it)) ≡ length (join it)
 
-pub moves : (n : ℕ) (news : List ℕ) → Sieve (entry n) (moved news) (λ it. leb 65536 (getD news (indexOf it) 0)) (λ it. renumber (getD news (indexOf it) 0) it)
+pub moves : (n : ℕ) (news : List ℕ) → Sieve (entry n) (λ i. moved news) (λ i it. leb 65535 (getD news (indexOf it) 0)) (λ it. renumber (getD news (indexOf it) 0) it)
 unfolding entry
-moves n news = record { none = refl; each = λ it its. refl; same = λ it h. renumber-length n (getD news (indexOf it) 0) entryRest it h }
+moves n news = record { none = λ i. refl; each = λ i it its. refl; same = λ it h. renumber-length n (getD news (indexOf it) 0) entryRest it h }
 
-pub keeps : (f : Fmt) (g : List (List ℕ) → Bool) → Sieve f (kept g) g (λ it. it)
-keeps f g = record { none = refl; each = λ it its. refl; same = λ it h. refl }
+pub keeps : (f : Fmt) (news : List ℕ) → Sieve f (sieved news) (λ i it. leb 65535 (getD news i 0)) (λ it. it)
+keeps f news = record { none = λ i. refl; each = λ i it its. refl; same = λ it h. refl }
 
 -- ---- one item more
 
@@ -51,133 +52,111 @@ one-le : (t : Bool) (n : ℕ) → cond t 0 n ≤ n
 one-le true n = omega arith
 one-le false n = omega arith
 
-module _ (f : Fmt) (stay : List (List (List ℕ)) → List (List (List ℕ))) where
+-- octets are those of an item
+some-item : (xs : List (List (List ℕ))) → 0 < length (joins xs) → 0 < length xs
+some-item [] h = absurd (omega (arith, h))
+some-item (x ∷ xs) h = omega arith
+
+module _ {f : Fmt} {stay : ℕ → List (List (List ℕ)) → List (List (List ℕ))} {gone : ℕ → List (List ℕ) → Bool} {new : List (List ℕ) → List (List ℕ)} (v : Sieve f stay gone new) where
   -- the first of the items left: what it adds to the count, its octets, and how many they are
-  first : (gone : List (List ℕ) → Bool) (new : List (List ℕ) → List (List ℕ)) (m : List ℕ) (at k : ℕ) (its : List (List (List ℕ))) (rest : List ℕ)
-      → Sieve f stay gone new → Next f m at k its rest
+  first : (m : List ℕ) (at i k : ℕ) (its : List (List (List ℕ))) (rest : List ℕ) → Next f m at k its rest
       → let it = item f (drop at m) in
-      (length (stay its) ≡ cond (gone it) 0 1 + length (stay (tail its)))
-      × (joins (stay its) ≡ cond (gone it) [] (join (new it)) ++ joins (stay (tail its)))
-      × (length (cond (gone it) [] (join (new it))) ≡ cond (gone it) 0 (length (join it)))
-  first gone new m at k its rest v x =
+      (length (stay i its) ≡ cond (gone i it) 0 1 + length (stay (i + 1) (tail its)))
+      × (joins (stay i its) ≡ cond (gone i it) [] (join (new it)) ++ joins (stay (i + 1) (tail its)))
+      × (length (cond (gone i it) [] (join (new it))) ≡ cond (gone i it) 0 (length (join it)))
+  first m at i k its rest x =
       let it : List (List ℕ) = item f (drop at m) in
-      let e : stay its ≡ consUnless (gone it) (new it) (stay (tail its)) = ap stay (x .split) ∙ v .each it (tail its) in
-      (rw e (count-one (gone it) (new it) (stay (tail its))), rw e (joins-one (gone it) (new it) (stay (tail its))), length-one (gone it) (join (new it)) (length (join it)) (v .same it (x .fit)))
+      let e : stay i its ≡ consUnless (gone i it) (new it) (stay (i + 1) (tail its)) = ap (stay i) (x .split) ∙ v .each i it (tail its) in (
+        rw e (count-one (gone i it) (new it) (stay (i + 1) (tail its))),
+        rw e (joins-one (gone i it) (new it) (stay (i + 1) (tail its))),
+        length-one (gone i it) (join (new it)) (length (join it)) (v .same it (x .fit)),
+      )
 
-  -- ---- measuring: k items and octets stay of those before `at`; `left` of count are left
+-- i of count items are passed, and `left` are left: what stays of these, over the buffer as it is, is what stays of all, over the
+-- buffer as it was
+pub record Laying (f : Fmt) (stay : ℕ → List (List (List ℕ)) → List (List (List ℕ))) (lays : Bool) (m : List ℕ) (all : List (List (List ℕ))) (count : ℕ) (out₀ : List ℕ) (put₀ : ℕ) (out : List ℕ)
+    (at i left kept end : ℕ) : Type 0 where
+  pub its : List (List (List ℕ))
+  pub rest : List ℕ
+  pub here : Here f left (drop at m) its rest
+  pub long : length out ≡ length out₀
+  pub counted : kept + length (stay i its) ≡ length (stay 0 all)
+  pub ends : end + length (joins (stay i its)) ≡ put₀ + length (joins (stay 0 all))
+  pub holds : laid lays out end (joins (stay i its)) ≡ laid lays out₀ put₀ (joins (stay 0 all))
+  pub few : kept + left ≤ count
+  pub used : end ≤ at
 
-  pub record Measuring (m : List ℕ) (all : List (List (List ℕ))) (count at left k octets : ℕ) : Type 0 where
-    pub its : List (List (List ℕ))
-    pub rest : List ℕ
-    pub here : Here f left (drop at m) its rest
-    pub counted : k + length (stay its) ≡ length (stay all)
-    pub sized : octets + length (joins (stay its)) ≡ length (joins (stay all))
-    pub few : k + left ≤ count
-    pub used : octets ≤ at
+pub lay-starts : (f : Fmt) (stay : ℕ → List (List (List ℕ)) → List (List (List ℕ))) (lays : Bool) (m : List ℕ) (from count i left : ℕ) (out : List ℕ) (put : ℕ)
+    → Octets m → Lie f count (drop from m) → put ≤ from → i ≡ 0 → left ≡ count → Laying f stay lays m (items f count (drop from m)) count out put out from i left 0 put
+lay-starts f stay lays m from count i left out put oc h u ei el =
+    rw (ei, el)
+    (record {
+      its = items f count (drop from m);
+      rest = leftN f count (drop from m);
+      here = here-of f count (drop from m) (octets-drop from m oc) h;
+      long = refl;
+      counted = omega arith;
+      ends = refl;
+      holds = refl;
+      few = omega arith;
+      used = u;
+    })
 
-  pub measure-starts : (m : List ℕ) (from count : ℕ) → Octets m → Lie f count (drop from m) → Measuring m (items f count (drop from m)) count from count 0 0
-  measure-starts m from count oc h =
-      record {
-        its = items f count (drop from m);
-        rest = leftN f count (drop from m);
-        here = here-of f count (drop from m) (octets-drop from m oc) h;
-        counted = omega arith;
-        sized = omega arith;
-        few = omega arith;
-        used = omega arith;
-      }
+module _ {f : Fmt} {stay : ℕ → List (List (List ℕ)) → List (List (List ℕ))} {gone : ℕ → List (List ℕ) → Bool} {new : List (List ℕ) → List (List ℕ)} (v : Sieve f stay gone new)
+    {lays : Bool} {m : List ℕ} {all : List (List (List ℕ))} {count : ℕ} {out₀ : List ℕ} {put₀ : ℕ} {out : List ℕ} {at i left kept end : ℕ}
+    (r : Laying f stay lays m all count out₀ put₀ out at i left kept end) where
+  -- the item at `at`, and those behind it
+  pub ahead : 0 < left → Next f m at left (r .its) (r .rest)
+  ahead p = next f m at left (r .its) (r .rest) (r .here) p
 
-  pub measure-turn : (gone : List (List ℕ) → Bool) (new : List (List ℕ) → List (List ℕ)) (m : List ℕ) (all : List (List (List ℕ))) (count at left k octets size k′ octets′ : ℕ) (t : Bool)
-      → Sieve f stay gone new → Measuring m all count at left k octets → 0 < left
-      → size ≡ length (join (item f (drop at m))) → t ≡ gone (item f (drop at m)) → k′ ≡ k + cond t 0 1 → octets′ ≡ octets + cond t 0 size
-      → Measuring m all count (at + size) (left - 1) k′ octets′
-  measure-turn gone new m all count at left k octets size k′ octets′ t v r p es et ek eo =
-      let x = next f m at left (r .its) (r .rest) (r .here) p in
-      let it : List (List ℕ) = item f (drop at m) in
-      let o = first gone new m at left (r .its) (r .rest) v x in
-      let c : length (joins (stay (r .its))) ≡ cond (gone it) 0 (length (join it)) + length (joins (stay (tail (r .its)))) = rw (o .1, length-append, o .2) in
-      rw (ek, eo, es, et)
-      (record {
-        its = tail (r .its);
-        rest = r .rest;
-        here = x .on;
-        counted = omega (arith, r .counted, o .0);
-        sized = omega (arith, r .sized, c);
-        few = omega (arith, r .few, one-le (gone it) 1);
-        used = omega (arith, r .used, one-le (gone it) (length (join it)));
-      })
+  module _ (p : 0 < left) (roomy : Roomy lays out₀ put₀ (stay 0 all)) {size : ℕ} {t : Bool} (es : size ≡ length (join (item f (drop at m)))) (et : t ≡ gone i (item f (drop at m))) where
+    -- the next item has room, if it stays
+    pub lay-room : lays ≡ true → t ≡ false → end + size ≤ length out
+    lay-room l s =
+        let o = first v m at i left (r .its) (r .rest) (ahead p) in
+        let z : gone i (item f (drop at m)) ≡ false = sym et ∙ s in
+        let c1 : length (stay i (r .its)) ≡ 1 + length (stay (i + 1) (tail (r .its))) = rw z at (o .0) in
+        let c2 : length (joins (stay i (r .its))) ≡ length (join (item f (drop at m))) + length (joins (stay (i + 1) (tail (r .its)))) = rw (o .1, length-append, o .2, z) in
+        let b = roomy l (omega (arith, r .counted)) in
+        omega (arith, r .ends, r .long, c2, es, b)
 
-  pub measure-done : (gone : List (List ℕ) → Bool) (new : List (List ℕ) → List (List ℕ)) (m : List ℕ) (all : List (List (List ℕ))) (count at left k octets : ℕ)
-      → Sieve f stay gone new → Measuring m all count at left k octets → left ≤ 0 → (k ≡ length (stay all)) × (octets ≡ length (joins (stay all)))
-  measure-done gone new m all count at left k octets v r p =
+    pub lay-turn : {out′ : List ℕ} {at′ i′ left′ kept′ end′ : ℕ} → kept′ ≡ kept + cond t 0 1 → end′ ≡ end + cond t 0 size → out′ ≡ laid lays out end (cond t [] (join (new (item f (drop at m)))))
+        → at′ ≡ at + size → i′ ≡ i + 1 → left′ ≡ left - 1 → Laying f stay lays m all count out₀ put₀ out′ at′ i′ left′ kept′ end′
+    lay-turn {out′} {at′} {i′} {left′} {kept′} {end′} ek ee eo ea ei el =
+        let x = ahead p in
+        let it : List (List ℕ) = item f (drop at m) in
+        let w : List ℕ = cond (gone i it) [] (join (new it)) in
+        let y : List ℕ = joins (stay (i + 1) (tail (r .its))) in
+        let o = first v m at i left (r .its) (r .rest) x in
+        let l : length (joins (stay i (r .its))) ≡ cond (gone i it) 0 (length (join it)) + length y = rw (o .1, length-append, o .2) in
+        let lw : length w ≡ cond (gone i it) 0 (length (join it)) = o .2 in
+        let roomw : lays ≡ true → 0 < length (w ++ y) → end + length (w ++ y) ≤ length out =
+        λ q h. let b : 0 < length (stay i (r .its)) = some-item (stay i (r .its)) (rw (o .1) h) in
+        let k = roomy q (omega (arith, r .counted)) in
+        let n : length (w ++ y) ≡ length (joins (stay i (r .its))) = rw (o .1) in
+        omega (arith, n, r .ends, r .long, k) in
+        rw (ek, ee, ea, ei, el, eo, es, et, ← lw)
+        (record {
+          its = tail (r .its);
+          rest = r .rest;
+          here = x .on;
+          long = length-some w y roomw ∙ r .long;
+          counted = omega (arith, r .counted, o .0);
+          ends = omega (arith, r .ends, l, lw);
+          holds = laid-behind-some lays out end w y roomw ∙ ap (laid lays out end) (sym (o .1)) ∙ r .holds;
+          few = omega (arith, r .few, one-le (gone i it) 1);
+          used = omega (arith, r .used, lw, one-le (gone i it) (length (join it)));
+        })
+      where
+        length-some : (w y : List ℕ) → (lays ≡ true → 0 < length (w ++ y) → end + length (w ++ y) ≤ length out) → length (laid lays out end w) ≡ length out
+        length-some [] y h = ap length (laid-nothing lays out end)
+        length-some (a ∷ w) y h = length-laid lays out end (a ∷ w) (λ q. let n : length ((a ∷ w) ++ y) ≡ suc (length w) + length y = length-append (a ∷ w) y in omega (arith, h q (omega arith)))
+
+  pub lay-done : left ≤ 0 → (kept ≡ length (stay 0 all)) × (end ≡ put₀ + length (joins (stay 0 all))) × (out ≡ laid lays out₀ put₀ (joins (stay 0 all)))
+  lay-done p =
       let z : left ≡ 0 = omega arith in
-      let e : stay (r .its) ≡ [] = ap stay (none-left f (drop at m) (r .its) (r .rest) (rw z at (r .here))) ∙ v .none in
+      let e : stay i (r .its) ≡ [] = ap (stay i) (none-left f (drop at m) (r .its) (r .rest) (rw z at (r .here))) ∙ v .none i in
       let c1 = rw e at (r .counted) in
-      let c2 = rw e at (r .sized) in
-      (omega (arith, c1), omega (arith, c2))
-
-  -- ---- writing: what stays of the items left, over the buffer as it is, is what stays of all, over the buffer as it was
-
-  pub record Writing (m : List ℕ) (all : List (List (List ℕ))) (out₀ : List ℕ) (put₀ : ℕ) (out : List ℕ) (at left put : ℕ) : Type 0 where
-    pub its : List (List (List ℕ))
-    pub rest : List ℕ
-    pub here : Here f left (drop at m) its rest
-    pub long : length out ≡ length out₀
-    pub room : put + length (joins (stay its)) ≡ put₀ + length (joins (stay all))
-    pub holds : over out put (joins (stay its)) ≡ over out₀ put₀ (joins (stay all))
-
-  pub write-starts : (m : List ℕ) (from count : ℕ) (out : List ℕ) (put : ℕ) → Octets m → Lie f count (drop from m) → Writing m (items f count (drop from m)) out put out from count put
-  write-starts m from count out put oc h =
-      record {
-        its = items f count (drop from m);
-        rest = leftN f count (drop from m);
-        here = here-of f count (drop from m) (octets-drop from m oc) h;
-        long = refl;
-        room = refl;
-        holds = refl;
-      }
-
-  -- the next item has room
-  pub write-room : (gone : List (List ℕ) → Bool) (new : List (List ℕ) → List (List ℕ))
-      (m : List ℕ) (all : List (List (List ℕ))) (out₀ : List ℕ) (put₀ : ℕ) (out : List ℕ) (at left put size : ℕ) (t : Bool)
-      → Sieve f stay gone new → Writing m all out₀ put₀ out at left put → 0 < left → put₀ + length (joins (stay all)) ≤ length out₀
-      → size ≡ length (join (item f (drop at m))) → t ≡ gone (item f (drop at m)) → put + cond t 0 size ≤ length out
-  write-room gone new m all out₀ put₀ out at left put size t v r p q es et =
-      let x = next f m at left (r .its) (r .rest) (r .here) p in
-      let it : List (List ℕ) = item f (drop at m) in
-      let o = first gone new m at left (r .its) (r .rest) v x in
-      let c : length (joins (stay (r .its))) ≡ cond (gone it) 0 (length (join it)) + length (joins (stay (tail (r .its)))) = rw (o .1, length-append, o .2) in
-      rw (es, et) (omega (arith, r .room, r .long, c))
-
-  pub write-turn : (gone : List (List ℕ) → Bool) (new : List (List ℕ) → List (List ℕ))
-      (m : List ℕ) (all : List (List (List ℕ))) (out₀ : List ℕ) (put₀ : ℕ) (out out′ : List ℕ) (at left put put′ size : ℕ) (t : Bool)
-      → Sieve f stay gone new → Writing m all out₀ put₀ out at left put → 0 < left → put₀ + length (joins (stay all)) ≤ length out₀
-      → size ≡ length (join (item f (drop at m))) → t ≡ gone (item f (drop at m)) → out′ ≡ over out put (cond t [] (join (new (item f (drop at m))))) → put′ ≡ put + cond t 0 size
-      → Writing m all out₀ put₀ out′ (at + size) (left - 1) put′
-  write-turn gone new m all out₀ put₀ out out′ at left put put′ size t v r p q es et eo ep =
-      let x = next f m at left (r .its) (r .rest) (r .here) p in
-      let it : List (List ℕ) = item f (drop at m) in
-      let w : List ℕ = cond (gone it) [] (join (new it)) in
-      let y : List ℕ = joins (stay (tail (r .its))) in
-      let o = first gone new m at left (r .its) (r .rest) v x in
-      let l : length (joins (stay (r .its))) ≡ length w + length y = rw (o .1, length-append) in
-      let h : put + (length w + length y) ≤ length out = omega (arith, r .room, r .long, l) in
-      rw (ep, eo, es, et, ← (o .2))
-      (record {
-        its = tail (r .its);
-        rest = r .rest;
-        here = x .on;
-        long = length-over out put w (omega arith) ∙ r .long;
-        room = omega (arith, r .room, l);
-        holds = over-over out put w y h ∙ ap (over out put) (sym (o .1)) ∙ r .holds;
-      })
-
-  pub write-done : (gone : List (List ℕ) → Bool) (new : List (List ℕ) → List (List ℕ)) (m : List ℕ) (all : List (List (List ℕ))) (out₀ : List ℕ) (put₀ : ℕ) (out : List ℕ) (at left put : ℕ)
-      → Sieve f stay gone new → Writing m all out₀ put₀ out at left put → left ≤ 0 → put₀ + length (joins (stay all)) ≤ length out₀
-      → (put ≡ put₀ + length (joins (stay all))) × (out ≡ over out₀ put₀ (joins (stay all)))
-  write-done gone new m all out₀ put₀ out at left put v r p q =
-      let z : left ≡ 0 = omega arith in
-      let e : stay (r .its) ≡ [] = ap stay (none-left f (drop at m) (r .its) (r .rest) (rw z at (r .here))) ∙ v .none in
-      let c1 = rw e at (r .room) in
-      let c2 = rw e at (r .holds) in
-      (omega (arith, c1), sym (over-none out put (omega (arith, c1, r .long))) ∙ c2)
+      let c2 = rw e at (r .ends) in
+      let c3 = rw e at (r .holds) in
+      (omega (arith, c1), omega (arith, c2), sym (laid-nothing lays out end) ∙ c3)

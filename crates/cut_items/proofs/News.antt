@@ -12,11 +12,12 @@ use Rattle.form.specs.Fmt.{join}
 use Rattle.form.specs.Shape.{asOf}
 use Rattle.form.proofs.Octets.{octets-drop}
 use Rattle.page.specs.Peers.{peer}
+use Rattle.cutting.specs.Keep.{consUnless, kept}
 use Rattle.copy.specs.Over.{over}
 use Rattle.copy.proofs.Laws.{over-over, over-none}
-use Rattle.moving.specs.Found.{Lie, items, item}
+use Rattle.form.specs.Found.{Lie, items, item}
 use Rattle.moving.specs.Moved.{newFrom}
-use Rattle.moving.proofs.Found.{Here, leftN, here-of, tail, next, none-left}
+use Rattle.form.proofs.Found.{Here, leftN, here-of, tail, next, none-left}
 use Rattle.moving.proofs.Moved.{length-new}
 
 set-over : (out : List ℕ) (i v : ℕ) → i < length out → set out i v ≡ over out i (v ∷ [])
@@ -38,6 +39,7 @@ pub record Filling (m : List ℕ) (g : ℕ → Bool) (all : List (List (List ℕ
   pub within : i ≤ count
   pub few : k ≤ i
   pub long : length news ≡ length news₀
+  pub counted : k + length (kept g (map (asOf peer) its)) ≡ length (kept g (map (asOf peer) all))
   pub holds : over news i (newFrom g (map (asOf peer) its) k) ≡ over news₀ 0 (newFrom g (map (asOf peer) all) 0)
 
 pub fill-starts : (m : List ℕ) (g : ℕ → Bool) (news : List ℕ) (from count : ℕ) → Octets m → Lie peer count (drop from m)
@@ -51,22 +53,27 @@ fill-starts m g news from count oc h =
       within = omega arith;
       few = omega arith;
       long = refl;
+      counted = omega arith;
       holds = refl;
     }
 
-new-cons : (g : ℕ → Bool) (n k : ℕ) (ns : List ℕ) → newFrom g (n ∷ ns) k ≡ cond (g n) 65536 k ∷ newFrom g ns (cond (g n) k (k + 1))
+new-cons : (g : ℕ → Bool) (n k : ℕ) (ns : List ℕ) → newFrom g (n ∷ ns) k ≡ cond (g n) 65535 k ∷ newFrom g ns (cond (g n) k (k + 1))
 unfolding newFrom
 new-cons g n k ns = refl
+
+kept-more : (t : Bool) (n k : ℕ) (ns : List ℕ) → cond t k (k + 1) + length ns ≡ k + length (consUnless t n ns)
+kept-more true n k ns = refl
+kept-more false n k ns = omega arith
 
 few-more : (t : Bool) (k : ℕ) → cond t k (k + 1) ≤ k + 1
 few-more true k = omega arith
 few-more false k = omega arith
 
-pub fill-turn : (m : List ℕ) (g : ℕ → Bool) (all : List (List (List ℕ))) (news₀ news : List ℕ) (count at i k size v k′ : ℕ) (t : Bool)
+pub fill-turn : (m : List ℕ) (g : ℕ → Bool) (all : List (List (List ℕ))) (news₀ news : List ℕ) (count at i k next′ v k′ : ℕ) (t : Bool)
     → Filling m g all news₀ news count at i k → i < count → count ≤ length news₀
-    → size ≡ length (join (item peer (drop at m))) → t ≡ g (asOf peer (item peer (drop at m))) → v ≡ cond t 65536 k → k′ ≡ cond t k (k + 1)
-    → Filling m g all news₀ (set news i v) count (at + size) (i + 1) k′
-fill-turn m g all news₀ news count at i k size v k′ t r p q es et ev ek =
+    → next′ ≡ at + length (join (item peer (drop at m))) → t ≡ g (asOf peer (item peer (drop at m))) → v ≡ cond t 65535 k → k′ ≡ cond t k (k + 1)
+    → Filling m g all news₀ (set news i v) count next′ (i + 1) k′
+fill-turn m g all news₀ news count at i k next′ v k′ t r p q es et ev ek =
     let x = next peer m at (count - i) (r .its) (r .rest) (r .here) (omega arith) in
     let n : ℕ = asOf peer (item peer (drop at m)) in
     let ns : List ℕ = map (asOf peer) (tail (r .its)) in
@@ -83,14 +90,17 @@ fill-turn m g all news₀ news count at i k size v k′ t r p q es et ev ek =
       within = omega arith;
       few = omega (arith, r .few, few-more (g n) k);
       long = simp length-set (r .long);
-      holds = over-set news i (cond (g n) 65536 k) ys h ∙ rw (s, new-cons) at (r .holds);
+      counted = kept-more (g n) n k (kept g ns) ∙ rw s at (r .counted);
+      holds = over-set news i (cond (g n) 65535 k) ys h ∙ rw (s, new-cons) at (r .holds);
     })
 
 pub fill-done : (m : List ℕ) (g : ℕ → Bool) (all : List (List (List ℕ))) (news₀ news : List ℕ) (count at i k : ℕ)
-    → Filling m g all news₀ news count at i k → count ≤ i → count ≤ length news₀ → news ≡ over news₀ 0 (newFrom g (map (asOf peer) all) 0)
+    → Filling m g all news₀ news count at i k → count ≤ i → count ≤ length news₀
+    → (k ≡ length (kept g (map (asOf peer) all))) × (news ≡ over news₀ 0 (newFrom g (map (asOf peer) all) 0))
 unfolding newFrom
 fill-done m g all news₀ news count at i k r p q =
     let z : count - i ≡ 0 = omega arith in
     let e = none-left peer (drop at m) (r .its) (r .rest) (rw z at (r .here)) in
     let c = rw e at (r .holds) in
-    sym (over-none news i (omega (arith, r .within, r .long))) ∙ c
+    let n = rw e at (r .counted) in
+    (omega (arith, n), sym (over-none news i (omega (arith, r .within, r .long))) ∙ c)

@@ -1,9 +1,9 @@
 -- A record with items: where they lie, and what is written of it with other items. Assumes nothing.
 use mathlib.Core.Path.{_≡_, refl, sym, ap, _∙_, subst}
 use mathlib.Core.List.{List, _++_, append-assoc, append-nil}
-use Prim.Native.Nat.{ℕ, _+_, _-_, _^_, _≤_, _<_}
+use Prim.Native.Nat.{ℕ, _+_, _-_, _≤_, _<_}
 use native.Mathlib.Omega.{arith}
-use lib.ListN.{length, take, drop, length-append, length-take, length-drop}
+use lib.ListN.{length, take, drop, length-append, length-drop}
 use lib.Seq.{take-at, drop-at, drop-drop, take-append-seam, length-take-le}
 use Rattle.form.specs.Octets.{toBe}
 use Rattle.form.specs.Fmt.{Fmt, join}
@@ -15,9 +15,9 @@ use Rattle.form.proofs.Octets.{length-toBe}
 use Rattle.form.proofs.Record.{length-write}
 use Rattle.shown.specs.declared.Part.{Part}
 use Rattle.reading.specs.Answer.{within}
-use Rattle.moving.specs.Found.{Lie, items}
+use Rattle.form.specs.Found.{Lie, items}
 use Rattle.moving.specs.One.{itemsLeft}
-use Rattle.moving.proofs.Found.{lie-of}
+use Rattle.form.proofs.Found.{lie-of}
 
 -- the record with other items
 abbrev pub withItems : Rec → List (List ℕ) → List (List (List ℕ)) → Rec
@@ -60,10 +60,6 @@ pub size-items : (r : Rec) (cs : List (List ℕ)) (its : List (List (List ℕ)))
 unfolding spell
 size-items r cs its = simp (length-append, length-toBe) (omega arith)
 
-pub length-left : (d : List ℕ) (at front : ℕ) (its : List (List (List ℕ))) → at + 12 + front ≤ length d → length (itemsLeft d at front its) ≡ 14 + front + length (joins its)
-unfolding itemsLeft
-length-left d at front its h = simp (length-append, length-toBe, length-take, length-drop) (omega arith)
-
 -- ---- the items that reading showed
 
 -- n items of a format lie behind the record's front, from a on
@@ -76,12 +72,10 @@ pub record Held (d : List ℕ) (at : ℕ) (r : Rec) (item : Fmt) (a n : ℕ) : T
   pub fit : AllFits item (items item n (drop (at + a) d))
   pub many : length (items item n (drop (at + a) d)) ≡ n
   pub all : a + length (joins (items item n (drop (at + a) d))) ≡ size r
-  -- with other items: its octets, how many they are, and a Length that fits
+  -- with other items
   pub other : (jts : List (List (List ℕ))) → write (withItems r fields jts) ≡ itemsLeft d at (a - 14) jts
-  pub long : (jts : List (List (List ℕ))) → length (itemsLeft d at (a - 14) jts) ≡ a + length (joins jts)
-  pub small : (jts : List (List (List ℕ))) → length (joins jts) ≤ length (joins (items item n (drop (at + a) d))) → a - 14 + 2 + length (joins jts) < 256 ^ 4
 
-module _ (d : List ℕ) (at : ℕ) (r : Rec) (rest : List ℕ) (lie : write r ++ rest ≡ drop at d) (size-ok : length (spell (r .body)) < 256 ^ 4) (f g : Fmt) (p : Part) (n : ℕ)
+module _ (d : List ℕ) (at : ℕ) (r : Rec) (rest : List ℕ) (lie : write r ++ rest ≡ drop at d) (f g : Fmt) (p : Part) (n : ℕ)
     (reach : p .at + p .size ≡ size r) where
   held-items : (cs : List (List ℕ)) (its : List (List (List ℕ))) → r .body ≡ listed cs its → length its < 65536 → AllFits g its → put.items n (within (drop at d) p) ≡ put.items (length its) (joins its)
       → Held d at r g (p .at) n
@@ -97,7 +91,6 @@ module _ (d : List ℕ) (at : ℕ) (r : Rec) (rest : List ℕ) (lie : write r ++
       let there : write (withItems r cs its) ++ rest ≡ drop at d = subst (λ (x : Rec). write x ++ rest ≡ drop at d) er lie in
       let q = lie-of g n (drop (at + p .at) d) its rest (record { fits = fit; many = sym k; lie = rw a (items-at r cs its d at rest there) }) in
       let v : length (join cs) ≡ p .at - 14 = omega arith in
-      let room : at + 12 + (p .at - 14) ≤ length d = omega arith in
       record {
         lie = q .0;
         few = rw k few;
@@ -108,8 +101,6 @@ module _ (d : List ℕ) (at : ℕ) (r : Rec) (rest : List ℕ) (lie : write r ++
         many = rw (q .1) (sym k);
         all = rw (q .1) (omega arith);
         other = λ jts. items-left r cs its d at rest there jts ∙ ap (λ (x : ℕ). itemsLeft d at x jts) v;
-        long = λ jts. length-left d at (p .at - 14) jts room ∙ omega arith;
-        small = λ jts. rw (q .1) (λ h. omega arith);
       }
 
   pub held : BodyFits (many f g) (r .body) → put.items n (within (drop at d) p) ≡ tailOf (r .body) → Held d at r g (p .at) n

@@ -2,14 +2,14 @@
 use mathlib.Core.Path.{_≡_, refl, ap, _∙_, subst}
 use mathlib.Core.Bool.{Bool, true, false, cond, _&&_, _||_}
 use mathlib.Core.List.{List, [], _∷_, append-nil}
-use Prim.Native.Nat.{ℕ, suc, _+_, _-_, _≤_, _<_}
+use Prim.Native.Nat.{ℕ, suc, _+_, _-_, _<_}
 use native.Mathlib.Omega.{arith}
 use lib.Dec.{leb, ltb, eqb}
 use lib.ListN.{length, drop}
 use borrow.Author.Tests.{lt-ltb, ne-eqb}
 use Rattle.form.specs.Octets.{Octets}
 use Rattle.form.specs.Fmt.{Fmt, end, Fits}
-use Rattle.form.specs.Body.{Body, plain, listed, many, joins, BodyFits}
+use Rattle.form.specs.Body.{Body, plain, listed, many, BodyFits}
 use Rattle.form.specs.Shape.{Layout, entries, St, noTable, peersOf, plan, after}
 use Rattle.form.specs.Record.{Rec, write, size, next, timeOf}
 use Rattle.form.specs.Dump.{writes}
@@ -27,15 +27,13 @@ use Rattle.reading.specs.Answer.{place, time, within}
 use Rattle.reading.specs.One.{readOne}
 use Rattle.round_trip.specs.Tells.{Tells}
 use Rattle.cutting.specs.Cut.{Cut, mem, cutting, numbers, cutEntries, when, unlessEmptied, cutBody, rebody}
-use Rattle.cutting.proofs.Cut.{cutEntries-less}
-use Rattle.moving.specs.Found.{items}
+use Rattle.form.specs.Found.{items}
 use Rattle.moving.specs.Moved.{moved}
 use Rattle.moving.specs.One.{Ranked, recOf, cutOne, itemsLeft}
 use Rattle.cut_laws.proofs.Filled.{ranked-cut}
 use Rattle.cut_laws.proofs.Rest.{Rested, rested}
 use Rattle.cut_laws.proofs.Shows.{Shows, shows}
 use Rattle.cut_laws.proofs.Wrote.{wrote}
-use Rattle.cut_laws.proofs.Whole.{length-cond}
 use Rattle.cut_laws.proofs.Items.{withItems, Held, held}
 
 -- ---- one record, for every layout
@@ -82,11 +80,7 @@ pub record RibLeft (most from to : ℕ) (ms news d : List ℕ) (at : ℕ) (st : 
   pub left : writes (cutOne (layout most) (cutting from to ms) st (recOf (layout most) st (drop at d)))
       ≡ cond (leb from (time h) && ltb (time h) to)
       (cond (eqb (e .count) 0 || ltb 0 (length (entriesLeft news d at st e))) (itemsLeft d at (e .entries .at - 14) (entriesLeft news d at st e)) []) []
-  pub sized : length (writes (cutOne (layout most) (cutting from to ms) st (recOf (layout most) st (drop at d))))
-      ≡ cond (leb from (time h) && ltb (time h) to)
-      (cond (eqb (e .count) 0 || ltb 0 (length (entriesLeft news d at st e))) (e .entries .at + length (joins (entriesLeft news d at st e))) 0) 0
-  pub fewer : length (entriesLeft news d at st e) ≤ e .count
-  pub less : length (joins (entriesLeft news d at st e)) ≤ length (joins (entriesIn d at st e))
+  pub cuts : entriesLeft news d at st e ≡ cutEntries (λ n. mem n ms) (numbers st) (entriesIn d at st e)
   pub next : next (layout most) (recOf (layout most) st (drop at d)) st ≡ st
 
 module _ (most from to : ℕ) (ms news d : List ℕ) (at : ℕ) where
@@ -105,7 +99,7 @@ module _ (most from to : ℕ) (ms news d : List ℕ) (at : ℕ) where
       let st : St = peersOf ns in
       let r : Rec = recOf (layout most) st (drop at d) in
       let fits : BodyFits (many f (entry (length ns))) (r .body) = subst (λ (y : Layout). BodyFits (plan st y) (r .body)) l (w .read .valid .fits) in
-      let i = held d at r (w .read .rest) (w .read .lie) (w .read .valid .size) f (entry (length ns)) (e .entries) (e .count) (reach ∙ w .ends) fits tail in
+      let i = held d at r (w .read .rest) (w .read .lie) f (entry (length ns)) (e .entries) (e .count) (reach ∙ w .ends) fits tail in
       let its : List (List (List ℕ)) = entriesIn d at st e in
       let j : moved news its ≡ cutEntries (λ n. mem n ms) ns its = ranked-cut (λ n. mem n ms) ns entryRest news k its (i .fit) in
       let z = left-entries (layout most) (cutting from to ms) ns r f entryRest (i .fields) its (moved news its) l (i .body) j in
@@ -113,15 +107,12 @@ module _ (most from to : ℕ) (ms news d : List ℕ) (at : ℕ) where
       let some : Bool = eqb (e .count) 0 || ltb 0 (length (moved news its)) in
       let q : writes (cutOne (layout most) (cutting from to ms) st r) ≡ cond b (cond some (itemsLeft d at (e .entries .at - 14) (moved news its)) []) [] =
       z .0 ∙ rw (i .many, ← clock, i .other (moved news its)) in
-      let u = cutEntries-less (λ n. mem n ms) ns entryRest its (i .fit) in
       record {
         shown = w;
         table = refl;
         held = i;
         left = q;
-        sized = ap length q ∙ length-cond b _ ∙ ap (λ (k : ℕ). cond b k 0) (length-cond some _ ∙ ap (λ (k : ℕ). cond some k 0) (i .long (moved news its)));
-        fewer = rw j (omega (arith, u .0, i .many));
-        less = rw j (u .1);
+        cuts = j;
         next = z .1;
       }
 
@@ -142,12 +133,6 @@ module _ (most from to : ℕ) (ms news d : List ℕ) (at : ℕ) where
         let w = shows most d oc at more t st tells (RibGeneric h f i e) q refl in
         let k = wrote (kind (r .type) (r .sub)) 4 (w .same .whose) (omega arith) in
         entries-left st ranked (RibGeneric h f i e) w h e (genericHead (end 0)) (ap (layoutOf most) k) (w .same .timed) (subst Rested q (rested most t (drop at d))) (w .same .gives .tail)
-
--- the new indexes are as many as the table's peers
-pub ranked-room : (g : ℕ → Bool) (news : List ℕ) (st : St) → Ranked g news st → length (numbers st) ≤ length news
-unfolding Ranked
-ranked-room g news noTable h = omega arith
-ranked-room g news (peersOf ns) h = h .1
 
 -- a table of n peers that is told is in force
 pub tells-peers : (n : ℕ) (st : St) → Tells (Holds n) st → (st ≡ peersOf (numbers st)) × (n ≡ length (numbers st))

@@ -7,7 +7,7 @@ use native.Mathlib.Omega.{arith}
 use lib.ListN.{length, drop}
 use Rattle.form.specs.Octets.{Octets}
 use Rattle.form.specs.Fmt.{Fmt, end}
-use Rattle.form.specs.Body.{Body, listed, many, joins, BodyFits}
+use Rattle.form.specs.Body.{Body, listed, many, BodyFits}
 use Rattle.form.specs.Shape.{Layout, table, St, peersOf, plan, after, asOf}
 use Rattle.form.specs.Record.{Rec, write, size, next, timeOf}
 use Rattle.form.specs.Dump.{writes}
@@ -22,10 +22,8 @@ use Rattle.reading.specs.One.{readOne}
 use Rattle.round_trip.specs.Tells.{Tells}
 use Rattle.cutting.specs.Keep.{kept}
 use Rattle.cutting.specs.Cut.{Cut, mem, cutting, numbers, cutBody, rebody}
-use Rattle.cutting.proofs.Keep.{kept-length}
-use Rattle.cutting.proofs.Cut.{joins-kept}
 use Rattle.copy.specs.Over.{over}
-use Rattle.moving.specs.Found.{items}
+use Rattle.form.specs.Found.{items}
 use Rattle.moving.specs.Moved.{newFrom}
 use Rattle.moving.specs.One.{told, Ranked, recOf, cutOne, itemsLeft}
 use Rattle.cut_laws.proofs.Filled.{filled}
@@ -56,9 +54,6 @@ pub record TableLeft (most from to : ℕ) (ms d : List ℕ) (at : ℕ) (st : St)
   pub shown : Shows most d at st (PeerTable h p)
   pub held : Held d at (recOf (layout most) st (drop at d)) peer (p .peers .at) (p .count)
   pub left : writes (cutOne (layout most) (cutting from to ms) st (recOf (layout most) st (drop at d))) ≡ itemsLeft d at (p .peers .at - 14) (peersLeft ms d at p)
-  pub sized : length (writes (cutOne (layout most) (cutting from to ms) st (recOf (layout most) st (drop at d)))) ≡ p .peers .at + length (joins (peersLeft ms d at p))
-  pub fewer : length (peersLeft ms d at p) ≤ p .count
-  pub less : length (joins (peersLeft ms d at p)) ≤ length (joins (peersIn d at p))
   pub next : next (layout most) (recOf (layout most) st (drop at d)) st ≡ told peer d true (at + p .peers .at) (p .count)
   pub tells : Tells (Holds (p .count)) (told peer d true (at + p .peers .at) (p .count))
   -- the new indexes that are filled in for it
@@ -79,16 +74,13 @@ module _ (most from to : ℕ) (ms d : List ℕ) (oc : Octets d) (at : ℕ) (more
       let l : layout most (r .type) (r .sub) ≡ table (tableHead (end 0)) peer = ap (layoutOf most) k in
       let reach : p .peers .at + p .peers .size ≡ size r = subst Rested e (rested most t (drop at d)) ∙ w .ends in
       let fits : BodyFits (many (tableHead (end 0)) peer) (r .body) = subst (λ (x : Layout). BodyFits (plan st x) (r .body)) l (w .read .valid .fits) in
-      let i = held d at r (w .read .rest) (w .read .lie) (w .read .valid .size) (tableHead (end 0)) peer (p .peers) (p .count) reach fits (w .same .gives .tail) in
+      let i = held d at r (w .read .rest) (w .read .lie) (tableHead (end 0)) peer (p .peers) (p .count) reach fits (w .same .gives .tail) in
       let z = left-table (layout most) (cutting from to ms) st r (tableHead (end 0)) peer (i .fields) (peersIn d at p) l (i .body) in
       let m : length (map (asOf peer) (peersIn d at p)) ≡ p .count = length-map (asOf peer) (peersIn d at p) ∙ i .many in
       record {
         shown = w;
         held = i;
         left = z .0 ∙ i .other (peersLeft ms d at p);
-        sized = ap length (z .0 ∙ i .other (peersLeft ms d at p)) ∙ i .long (peersLeft ms d at p);
-        fewer = omega (arith, kept-length (λ it. mem (asOf peer it) ms) (peersIn d at p), i .many);
-        less = joins-kept (λ it. mem (asOf peer it) ms) (peersIn d at p);
         next = z .1;
         tells = sym m;
         ranked = λ news b. filled (λ n. mem n ms) (map (asOf peer) (peersIn d at p)) news (omega (arith, m, i .few)) (omega (arith, m));

@@ -4,11 +4,10 @@ use mathlib.Core.Bool.{Bool, true, false, cond, not, _&&_}
 use mathlib.Core.Logic.{inl, inr}
 use mathlib.Core.Option.{some}
 use mathlib.Core.List.{List, [], _∷_, _++_, append-nil}
-use Prim.Native.Nat.{ℕ, _^_, _≤_, _<_}
+use Prim.Native.Nat.{ℕ, _^_, _<_}
 use native.Mathlib.Omega.{arith}
 use lib.Dec.{leb, ltb}
-use lib.ListN.{length, take, drop, length-drop}
-use lib.Seq.{length-take-le}
+use lib.ListN.{length, take, drop}
 use Rattle.form.specs.Octets.{Octets, be, toBe}
 use Rattle.form.specs.Fmt.{Fmt, find}
 use Rattle.form.specs.Words.{num, skip, checked, choose}
@@ -20,7 +19,7 @@ use Rattle.form.specs.Gives.{Fit}
 use Rattle.form.proofs.Octets.{be-toBe}
 use Rattle.page.specs.Bgp4mp.{session}
 use Rattle.page.specs.TableDump.{tableDump, tableDumpRest}
-use Rattle.page.specs.Layout.{kind, layoutOf, layout, stamped}
+use Rattle.page.specs.Layout.{kind, layoutOf, layout, stamped, finer}
 use Rattle.shown.specs.declared.Part.{Part}
 use Rattle.shown.specs.declared.Header.{Header}
 use Rattle.shown.specs.declared.Session.{Session}
@@ -34,8 +33,8 @@ use Rattle.writing.specs.Times.{microOf, micros}
 use Rattle.writing.specs.declared.Time.{Time}
 use Rattle.writing.specs.declared.Time.the-variants.{Seconds, Micro}
 use Rattle.round_trip.specs.Tells.{Tells}
-use Rattle.round_trip.specs.Again.{finer, clock}
-use Rattle.round_trip.proofs.Choice.{Bgp, kind-says}
+use Rattle.round_trip.specs.Again.{clock}
+use Rattle.page.proofs.Choice.{Bgp, kind-says}
 use Rattle.cutting.specs.Cut.{Cut, mem, cutting, when, cutBody, rebody}
 use Rattle.moving.specs.One.{recOf, cutOne}
 use Rattle.cut_laws.proofs.Wrote.{wrote, wrote-unread}
@@ -65,12 +64,7 @@ micro-clock h y micro e (inr (a, b)) = let z : h .ty ≡ 17 = e ∙ a in rw (b, 
 pub record Whole (most from to : ℕ) (ms d : List ℕ) (at : ℕ) (st : St) (x : Shown) (stays : Bool) : Type 0 where
   pub shown : Shows most d at st x
   pub left : writes (cutOne (layout most) (cutting from to ms) st (recOf (layout most) st (drop at d))) ≡ cond stays (take (place x) (drop at d)) []
-  pub sized : length (writes (cutOne (layout most) (cutting from to ms) st (recOf (layout most) st (drop at d)))) ≡ cond stays (place x) 0
   pub next : next (layout most) (recOf (layout most) st (drop at d)) st ≡ st
-
-pub length-cond : (b : Bool) (xs : List ℕ) → length (cond b xs []) ≡ cond b (length xs) 0
-length-cond true xs = refl
-length-cond false xs = refl
 
 left-whole : (r : Rec) (b : Bool) → writes (rebody r (when b (some (r .body))) []) ≡ cond b (write r) []
 left-whole r true = append-nil (write r)
@@ -97,8 +91,7 @@ module _ (most from to : ℕ) (ms d : List ℕ) (oc : Octets d) (at : ℕ) (more
   whole : (x : Shown) → Shows most d at st x → (b : Bool) → (writes (cutOne (layout most) c st r) ≡ cond b (write r) []) × (next (layout most) r st ≡ st) → Whole most from to ms d at st x b
   whole x h b l =
       let e : writes (cutOne (layout most) c st r) ≡ cond b (take (place x) (drop at d)) [] = rw (h .octets) (l .0) in
-      let k : place x ≤ length (drop at d) = rw length-drop (omega (arith, h .inside)) in
-      record { shown = h; left = e; sized = ap length e ∙ length-cond b (take (place x) (drop at d)) ∙ rw (length-take-le (place x) (drop at d) k); next = l .1 }
+      record { shown = h; left = e; next = l .1 }
 
   pub unread-left : (h : Header) (p : Part) → readOne most t (drop at d) ≡ Unread h p → Whole most from to ms d at st (Unread h p) (leb from (time h) && ltb (time h) to)
   unfolding layout layoutOf

@@ -13,14 +13,15 @@ use Rattle.form.specs.Octets.{be}
 use Rattle.form.specs.Fmt.{Fmt, Fits, join, find}
 use Rattle.form.specs.Words.{checked}
 use Rattle.form.specs.Body.{Body, plain, listed, joins, AllFits, spell, BodyFits}
-use Rattle.form.specs.Shape.{Layout, refuse, fields, unread, table, entries, St, noTable, peersOf, plan, after, micros, indexed, itemsOf, frontOf, peerAs, asOf}
+use Rattle.form.specs.Shape.{Layout, refuse, fields, unread, table, entries, St, noTable, peersOf, plan, after, micros, indexed, itemsOf, frontOf, peerAs, asOf, indexOf}
 use Rattle.form.specs.Record.{Rec, write, Valid, layoutOf, next, timeOf}
 use Rattle.form.specs.Dump.{writes, Valids, Splits, nexts}
 use Rattle.form.proofs.Octets.{length-toBe, be-toBe, octets-toBe, be-below}
 use Rattle.form.proofs.Record.{length-write}
+use Rattle.form.proofs.Shape.{entry-index}
 use Rattle.form.proofs.Dump.{Shut, Below, after-below, valids-below, valids-append, writes-append, shows}
 use Rattle.cutting.specs.Keep.{consUnless, kept, rank}
-use Rattle.cutting.specs.Cut.{Cut, mem, cutting, numbers, indexOf, renumber, cutEntries, when, unlessEmptied, muted, cutBody, rebody, cutRecs, cut}
+use Rattle.cutting.specs.Cut.{Cut, mem, cutting, numbers, renumber, cutEntries, when, unlessEmptied, muted, cutBody, rebody, cutRecs, cut}
 use Rattle.cutting.proofs.Keep.{kept-length, kept-kept, kept-map, kept-at, rank-lt, rank-le, rank-rank}
 
 -- the table in force after a cut
@@ -40,15 +41,7 @@ pub data CutIs (c : Cut) (st : St) (l : Layout) (b : Body) : Option Body → Typ
   goes : Below (after l b st) st → CutIs c st l b none
   stays : (y : Body) → BodyFits (plan (cutSt c st) l) y → length (spell y) ≤ length (spell b) → after l y (cutSt c st) ≡ cutSt c (after l b st) → micros l y ≡ micros l b → CutIs c st l b (some y)
 
-cond-ok : (t : Bool) (n : ℕ) → (n ≡ 0 → ⊥) → _≡_ {A = ℕ} (cond t 0 n) 0 → t ≡ true
-cond-ok true n z e = refl
-cond-ok false n z e = absurd (z e)
-
--- an entry's index is below the table's count, and any other that is may take its place
-pub entry-index : (n : ℕ) (g : Fmt) (it : List (List ℕ)) → Fits (indexed n g) it → (indexOf it < n) × (indexOf it < 65536)
-unfolding Fits checked
-entry-index n g (c ∷ cs) h = (ltb-true _ _ (cond-ok (ltb (be c) n) 13 (λ z. omega arith) (h .2 .0)), be-below 2 c (h .0) (h .1))
-
+-- any other index below the table's count may take an entry's place
 entry-renumber : (n m j : ℕ) (g : Fmt) (it : List (List ℕ)) → Fits (indexed n g) it → j < m → j < 65536 → Fits (indexed m g) (renumber j it)
 unfolding Fits checked
 entry-renumber n m j g (c ∷ cs) h a b = (length-toBe 2 j, octets-toBe 2 j, (rw (be-toBe 2 j b, lt-ltb j m a), h .2 .1))

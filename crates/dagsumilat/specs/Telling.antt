@@ -6,14 +6,14 @@ use lib.ListN.{drop}
 use Rattle.form.specs.Words.{choose}
 use Rattle.shown.specs.declared.Table.{Table}
 use Rattle.shown.specs.declared.Table.the-variants.{Absent, Holds}
+use Rattle.shown.specs.declared.Shown.{Shown}
 use Rattle.reading.specs.One.{readOne}
 use Rattle.walking.specs.Steps.{stepAt}
 use Rattle.walking.specs.declared.Item.{Item}
 use Rattle.walking.specs.declared.Step.{Step}
 use Rattle.walking.specs.declared.Step.the-variants as step
-use Rattle.outline.specs.Outlines.{outlineOf}
-use Rattle.outline.specs.declared.Outline.{Outline}
-use Rattle.outline.specs.declared.Outline.the-variants as outline
+use Rattle.look.specs.Field.{peerOf, itemsAt, countOf}
+use Rattle.look.specs.Sort.{Sort, unread, ofPeer, table, rib, sortOf}
 use Rattle.dagsumilat.specs.declared.Told.{Told}
 
 abbrev pub none : ℕ
@@ -31,18 +31,18 @@ noRecord n at t = record { fault = n; place = at; table = t; time = 0; ty = 0; s
 abbrev pub good : Item → (table peer items count : ℕ) → Told
 good i t p o n = record { fault = 0; place = i .next; table = t; time = i .time; ty = i .ty; subtype = i .subtype; length = i .length; peer = p; items = o; count = n }
 
--- only a peer table changes the table in force
-abbrev pub outlined : Item → Outline → (table : ℕ) → Told
-outlined i (outline.Unread tm) t = good i t none 0 0
-outlined i (outline.Peer tm p) t = good i t p 0 0
-outlined i (outline.Table o n) t = good i n none o n
-outlined i (outline.Rib tm o n) t = good i t none o n
+-- what is shown of it, by its sort: only a peer table changes the table in force
+abbrev pub bySort : Item → (table : ℕ) → Shown → Sort → Told
+bySort i t x unread = good i t none 0 0
+bySort i t x ofPeer = good i t (peerOf x) 0 0
+bySort i t x table = good i (countOf x) none (itemsAt x) (countOf x)
+bySort i t x rib = good i t none (itemsAt x) (countOf x)
 
-abbrev pub toldOf : (table at : ℕ) → Step → Outline → Told
-toldOf t at step.End o = noRecord 0 at t
-toldOf t at (step.Fault n p) o = noRecord n p t
-toldOf t at (step.Record i u) o = outlined i o t
+abbrev pub toldOf : (table at : ℕ) → Step → Shown → Told
+toldOf t at step.End x = noRecord 0 at t
+toldOf t at (step.Fault n p) x = noRecord n p t
+toldOf t at (step.Record i u) x = bySort i t x (sortOf x)
 
 -- the record that starts at `at`; `most` is the longest BGP message
 unfoldable pub toldAt : (most table : ℕ) (d : List ℕ) (at : ℕ) → Told
-toldAt most t d at = toldOf t at (stepAt most (tableOf t) d at) (outlineOf (readOne most (tableOf t) (drop at d)))
+toldAt most t d at = toldOf t at (stepAt most (tableOf t) d at) (readOne most (tableOf t) (drop at d))

@@ -1,5 +1,4 @@
 -- An entry's fields where its record was judged before: neither the index nor the attributes are judged again (page/specs/Rib.entry does). Assumes nothing.
-use Prim.Native.Nat.{ℕ}
 use Rattle.form.specs.Fmt.{Fmt, end}
 use Rattle.form.specs.Words.{_$_, num, skip}
 use Rattle.page.specs.Names.{peerIndex, originated, attributeLength, attributeOctets}

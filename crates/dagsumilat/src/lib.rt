@@ -8,7 +8,9 @@ ghost use Rattle.shown.specs.declared.Entry.the-variants as entries;
 ghost use Rattle.walking.specs.Walked.{walked};
 ghost use Rattle.cut_laws.specs.Answer.{cutAnswer, leaves};
 ghost use Rattle.dagsumilat.specs.Answers as words;
-ghost use Rattle.dagsumilat.specs.Telling.{tableOf, noRecord, good, outlined, toldAt};
+ghost use Rattle.look.specs.Field.{typeOf, subtypeOf, itemsAt, countOf, Known, Is, Shows};
+ghost use Rattle.look.specs.Sort as sort;
+ghost use Rattle.dagsumilat.specs.Telling.{none, tableOf, noRecord, good, bySort, toldAt};
 ghost use Rattle.dagsumilat.specs.Unjudged.{entryFields};
 use cut::cut;
 use cutting::Cutted;
@@ -16,8 +18,14 @@ use flow::Num;
 use flow::Room;
 use flow::field;
 use flow::skip;
-use outline::Outline;
-use outline::outline_at;
+use look::count;
+use look::entry_count_at;
+use look::late_session_peer;
+use look::peer_count_at;
+use look::route_peer;
+use look::session_peer;
+use look::subtype_of;
+use look::type_of;
 use peers::peer_at;
 use shown::Entry;
 use shown::Part;
@@ -131,16 +139,51 @@ fn good(i: Item, table: u64, peer: u64, items: usize, count: u64) -> Told
     }
 }
 
-// A record of the outline o, where `table` is in force.
-fn outlined(i: Item, o: Outline, table: u64) -> Told
-    ensures { λ r. ⌜ r ≡ outlined i o table ⌝ }
+// A good peer table at `at`: it is the table in force behind it.
+fn table_told(d: &[u8], at: usize, i: Item) -> Told
+    requires { ⌜ Is (now d) at (λ x. sort.sortOf x ≡ sort.table) ⌝ }
+    ensures { λ r. ⌜ Shows (now (d .entry)) at (λ x. r ≡ good i (countOf x) none (itemsAt x) (countOf x)) ⌝ }
 {
     let none = 18446744073709551615;
-    match o {
-        Outline::Unread(_) => good(i, table, none, 0, 0),
-        Outline::Peer(_, peer) => good(i, table, peer, 0, 0),
-        Outline::Table(items, count) => good(i, count, none, items, count),
-        Outline::Rib(_, items, count) => good(i, table, none, items, count),
+    let counted = peer_count_at(d, at);
+    let many = count(d, counted);
+    good(i, many, none, counted + 2 - at, many)
+}
+
+// A good RIB record at `at`.
+fn rib_told(d: &[u8], at: usize, i: Item, subtype: u64, table: u64) -> Told
+    requires { ⌜ Is (now d) at (λ x. (sort.sortOf x ≡ sort.rib) × (subtypeOf x ≡ subtype)) ⌝ }
+    ensures { λ r. ⌜ Shows (now (d .entry)) at (λ x. r ≡ good i table none (itemsAt x) (countOf x)) ⌝ }
+{
+    let none = 18446744073709551615;
+    let counted = entry_count_at(d, at, subtype);
+    good(i, table, none, counted + 2 - at, count(d, counted))
+}
+
+// A good record of type 13.
+fn items_told(d: &[u8], at: usize, i: Item, subtype: u64, table: u64) -> Told
+    requires { ⌜ Is (now d) at (λ x. (typeOf x ≡ 13) × (subtypeOf x ≡ subtype)) ⌝ }
+    ensures { λ r. ⌜ Shows (now (d .entry)) at (λ x. r ≡ bySort i table x (sort.sortOf x)) ⌝ }
+{
+    if subtype == 1 {
+        return table_told(d, at, i);
+    }
+    rib_told(d, at, i, subtype, table)
+}
+
+// The good record at `at`, where `table` is in force.
+fn good_told(d: &[u8], at: usize, i: Item, table: u64) -> Told
+    requires { ⌜ Known (now d) at ⌝ }
+    ensures { λ r. ⌜ Shows (now (d .entry)) at (λ x. r ≡ bySort i table x (sort.sortOf x)) ⌝ }
+{
+    let none = 18446744073709551615;
+    let subtype = subtype_of(d, at);
+    match type_of(d, at) {
+        12 => good(i, table, route_peer(d, at, subtype), 0, 0),
+        13 => items_told(d, at, i, subtype, table),
+        16 => good(i, table, session_peer(d, at, subtype), 0, 0),
+        17 => good(i, table, late_session_peer(d, at, subtype), 0, 0),
+        _ => good(i, table, none, 0, 0),
     }
 }
 
@@ -150,7 +193,7 @@ fn told_at(d: &[u8], at: usize, table: u64) -> Told
     match step_at(d, at, table_of(table)) {
         Step::End => no_record(0, at, table),
         Step::Fault(n, p) => no_record(n, p, table),
-        Step::Record(i, _) => outlined(i, outline_at(d, at, table_of(table)), table),
+        Step::Record(i, _) => good_told(d, at, i, table),
     }
 }
 

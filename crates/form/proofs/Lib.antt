@@ -13,3 +13,4 @@ pub mod Put
 pub mod Given
 pub mod Alike
 pub mod Refuses
+pub mod Found

@@ -1,4 +1,3 @@
-pub mod Found
 pub mod Moved
-pub mod Entry
-pub mod Peer
+pub mod Laid
+pub mod Lost

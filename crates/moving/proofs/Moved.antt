@@ -10,24 +10,24 @@ use lib.Dec.{leb}
 use borrow.Author.Tests.{lt-leb}
 use Rattle.form.specs.Fmt.{Fmt}
 use Rattle.form.specs.Body.{AllFits}
-use Rattle.form.specs.Shape.{indexed}
+use Rattle.form.specs.Shape.{indexed, indexOf}
 use Rattle.cutting.specs.Keep.{consUnless, kept, rank}
-use Rattle.cutting.specs.Cut.{indexOf, renumber, cutEntries}
+use Rattle.cutting.specs.Cut.{renumber, cutEntries}
 use Rattle.cutting.proofs.Keep.{rank-le}
-use Rattle.cutting.proofs.Cut.{entry-index}
+use Rattle.form.proofs.Shape.{entry-index}
 use Rattle.moving.specs.Moved.{newFrom, moved}
 
 -- the definition's rank, at each place
-pub new-at : (g : ℕ → Bool) (ns : List ℕ) (k i : ℕ) → i < length ns → getD (newFrom g ns k) i 0 ≡ cond (g (getD ns i 0)) 65536 (k + rank g ns i)
+pub new-at : (g : ℕ → Bool) (ns : List ℕ) (k i : ℕ) → i < length ns → getD (newFrom g ns k) i 0 ≡ cond (g (getD ns i 0)) 65535 (k + rank g ns i)
 unfolding newFrom
 new-at g [] k i h = absurd (not-suc-le-zero h)
 new-at g (n ∷ ns) k zero h = let e : k + 0 ≡ k = omega arith in rw e
 new-at g (n ∷ ns) k (suc i) h = go (g n) (new-at g ns (cond (g n) k (k + 1)) i (le-of-suc-le-suc h))
   where
-    go : (t : Bool) → getD (newFrom g ns (cond t k (k + 1))) i 0 ≡ cond (g (getD ns i 0)) 65536 (cond t k (k + 1) + rank g ns i)
-        → getD (newFrom g ns (cond t k (k + 1))) i 0 ≡ cond (g (getD ns i 0)) 65536 (k + length (consUnless t n (kept g (take i ns))))
+    go : (t : Bool) → getD (newFrom g ns (cond t k (k + 1))) i 0 ≡ cond (g (getD ns i 0)) 65535 (cond t k (k + 1) + rank g ns i)
+        → getD (newFrom g ns (cond t k (k + 1))) i 0 ≡ cond (g (getD ns i 0)) 65535 (k + length (consUnless t n (kept g (take i ns))))
     go true e = e
-    go false e = e ∙ ap (cond (g (getD ns i 0)) 65536) (omega arith)
+    go false e = e ∙ ap (cond (g (getD ns i 0)) 65535) (omega arith)
 
 pub length-new : (g : ℕ → Bool) (ns : List ℕ) (k : ℕ) → length (newFrom g ns k) ≡ length ns
 unfolding newFrom
@@ -35,7 +35,7 @@ length-new g [] k = refl
 length-new g (n ∷ ns) k = ap suc (length-new g ns (cond (g n) k (k + 1)))
 
 -- news are the table's new indexes, whatever stands behind them
-pub moved-cut : (g : ℕ → Bool) (ns : List ℕ) (f : Fmt) (news : List ℕ) → ((i : ℕ) → i < length ns → getD news i 0 ≡ cond (g (getD ns i 0)) 65536 (rank g ns i)) → length ns ≤ 65536
+pub moved-cut : (g : ℕ → Bool) (ns : List ℕ) (f : Fmt) (news : List ℕ) → ((i : ℕ) → i < length ns → getD news i 0 ≡ cond (g (getD ns i 0)) 65535 (rank g ns i)) → length ns ≤ 65535
     → (its : List (List (List ℕ))) → AllFits (indexed (length ns) f) its → moved news its ≡ cutEntries g ns its
 moved-cut g ns f news e l [] h = refl
 moved-cut g ns f news e l (it ∷ its) h =
@@ -43,9 +43,9 @@ moved-cut g ns f news e l (it ∷ its) h =
     rw (e (indexOf it) k, moved-cut g ns f news e l its (h .1)) (go (g (getD ns (indexOf it) 0)) k)
   where
     go : (t : Bool) → indexOf it < length ns
-        → consUnless (leb 65536 (cond t 65536 (rank g ns (indexOf it)))) (renumber (cond t 65536 (rank g ns (indexOf it))) it) (cutEntries g ns its)
+        → consUnless (leb 65535 (cond t 65535 (rank g ns (indexOf it)))) (renumber (cond t 65535 (rank g ns (indexOf it))) it) (cutEntries g ns its)
         ≡ consUnless t (renumber (rank g ns (indexOf it)) it) (cutEntries g ns its)
     go true k = refl
     go false k =
-        let m : rank g ns (indexOf it) < 65536 = omega (arith, rank-le g ns (indexOf it)) in
+        let m : rank g ns (indexOf it) < 65535 = omega (arith, rank-le g ns (indexOf it)) in
         rw (lt-leb _ _ m)

@@ -1,3 +1,3 @@
-pub mod Found
+pub mod Laid
 pub mod Moved
 pub mod One

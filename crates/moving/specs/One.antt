@@ -1,7 +1,7 @@
 -- One record of a dump, the table in force as a cut carries it, and what is left of the record. Assumes nothing.
 use mathlib.Core.Path.{_≡_}
 use mathlib.Core.Bool.{Bool, true, false, cond}
-use mathlib.Core.List.{List, [], _∷_, _++_, map}
+use mathlib.Core.List.{List, [], _++_, map}
 use Prim.Native.Nat.{ℕ, _+_, _≤_, _<_}
 use lib.ListN.{length, take, drop, getD}
 use Rattle.form.specs.Octets.{toBe}
@@ -11,7 +11,7 @@ use Rattle.form.specs.Shape.{Layout, St, noTable, peersOf, asOf}
 use Rattle.form.specs.Record.{Rec, readRec, layoutOf, timeOf}
 use Rattle.cutting.specs.Keep.{rank}
 use Rattle.cutting.specs.Cut.{Cut, numbers, cutBody, rebody}
-use Rattle.moving.specs.Found.{Accepted, items}
+use Rattle.form.specs.Found.{Accepted, items}
 
 abbrev pub theRec : Out Rec → Rec
 theRec (bad n p) = record { stamp = 0; type = 0; sub = 0; body = plain [] }
@@ -25,7 +25,7 @@ told peer d true from count = peersOf (map (asOf peer) (items peer count (drop f
 -- news are the new indexes of the table in force
 unfoldable pub Ranked : (ℕ → Bool) → List ℕ → St → Type 0
 Ranked g news noTable = Unit
-Ranked g news (peersOf ns) = (length ns ≤ 65536) × (length ns ≤ length news) × ((i : ℕ) → i < length ns → getD news i 0 ≡ cond (g (getD ns i 0)) 65536 (rank g ns i))
+Ranked g news (peersOf ns) = (length ns ≤ 65535) × (length ns ≤ length news) × ((i : ℕ) → i < length ns → getD news i 0 ≡ cond (g (getD ns i 0)) 65535 (rank g ns i))
 
 module _ (layout : ℕ → ℕ → Layout) where
   -- a record at the front of bs

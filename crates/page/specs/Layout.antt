@@ -1,5 +1,5 @@
 -- Which layout a Type and a Subtype choose (document 01, "Record layouts"; faults 3 and 4). Assumes nothing.
-use mathlib.Core.Bool.{_||_}
+use mathlib.Core.Bool.{Bool, _||_}
 use Prim.Native.Nat.{ℕ, zero, suc, _-_}
 use lib.Dec.{eqb}
 use Rattle.form.specs.Fmt.{Fmt, end}
@@ -44,6 +44,10 @@ kind type sub =
     $ choose (eqb type 16) (kind16 0 sub)
     $ choose (eqb type 17) (kind16 4 sub)
     $ Refused 3 4
+
+-- the types whose message starts with microseconds
+unfoldable pub finer : (type : ℕ) → Bool
+finer type = eqb type 17 || eqb type 33 || eqb type 49
 
 -- microseconds, where a message has them, are its first field
 unfoldable pub stamped : (micro : ℕ) → Fmt → Fmt

@@ -21,7 +21,7 @@ use Rattle.flow.specs.Field.{fieldAt}
 use Rattle.flow.specs.declared.Num.the-variants as one
 use Rattle.page.specs.Names.{microseconds}
 use Rattle.page.specs.Bgp4mp.{session, stateChange, message}
-use Rattle.page.specs.Layout.{kind, layoutOf, stamped}
+use Rattle.page.specs.Layout.{kind, layoutOf, stamped, finer}
 use Rattle.page.specs.declared.Kind.{Kind}
 use Rattle.page.specs.declared.Kind.the-variants.{Change, Message}
 use Rattle.shown.specs.Told as show
@@ -35,9 +35,9 @@ use Rattle.writing.specs.Only.{writer}
 use Rattle.writing.specs.Givens.{bgpGiven}
 use Rattle.writing.specs.declared.Time.{Time}
 use Rattle.writing.specs.declared.Time.the-variants.{Seconds, Micro}
-use Rattle.round_trip.specs.Again.{finer, clock, again}
+use Rattle.round_trip.specs.Again.{clock, again}
 use Rattle.round_trip.specs.Agrees.{headerOf, writerOf, Same}
-use Rattle.round_trip.proofs.Choice.{Bgp}
+use Rattle.page.proofs.Choice.{Bgp}
 use Rattle.round_trip.proofs.Parts.{by-parts, rest-here}
 use Rattle.round_trip.proofs.Same.{head, rec, Stands, Reads, same, fields-agree}
 use Rattle.round_trip.proofs.Bgp4mp.{Told, changeOf, messageOf, change-parts, message-parts}

@@ -17,7 +17,8 @@ use Rattle.writing.specs.Only.{changes, messages, unreads}
 use Rattle.writing.specs.Givens.{changeGiven, messageGiven, unreadGiven}
 use Rattle.writing.specs.declared.Time.{Time}
 use Rattle.writing.specs.declared.Time.the-variants.{Seconds, Micro}
-use Rattle.round_trip.specs.Again.{finer, clock, again}
+use Rattle.page.specs.Layout.{finer}
+use Rattle.round_trip.specs.Again.{clock, again}
 use Rattle.round_trip.specs.Agrees.{writerOf}
 use Rattle.round_trip.specs.Forms.{formOf, forms, formsFor, Formed}
 

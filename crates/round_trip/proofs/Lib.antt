@@ -1,5 +1,4 @@
 pub mod Parts
-pub mod Choice
 pub mod Same
 pub mod TableDump
 pub mod Bgp4mp

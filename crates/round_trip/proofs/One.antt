@@ -24,7 +24,7 @@ use Rattle.shown.specs.declared.Table.{Table}
 use Rattle.reading.specs.One.{shownAs, wholeRecord, readOne}
 use Rattle.round_trip.specs.Tells.{Tells}
 use Rattle.round_trip.specs.Agrees.{Agrees}
-use Rattle.round_trip.proofs.Choice.{Says, kind-says}
+use Rattle.page.proofs.Choice.{Says, kind-says}
 use Rattle.round_trip.proofs.Same.{rec, Stands, Reads}
 use Rattle.round_trip.proofs.TableDump.{table-dump-agrees}
 use Rattle.round_trip.proofs.Behind.{change-agrees, message-agrees}

@@ -13,7 +13,7 @@ use Rattle.page.specs.declared.Kind.{Kind}
 use Rattle.page.specs.declared.Kind.the-variants.{Refused, Unread, TableDump, PeerTable, Rib, RibGeneric, Change, Message}
 use Rattle.writing.specs.Only.{writer}
 use Rattle.round_trip.specs.Forms.{TailFor}
-use Rattle.round_trip.proofs.Choice.{Says}
+use Rattle.page.proofs.Choice.{Says}
 
 module _ (n : ℕ) where
   no-tail : (t : Tail) → (6 < n → ⊥) → (1 < n → n < 5 → ⊥) → TailFor n t → t ≡ nothing

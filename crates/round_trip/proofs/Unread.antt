@@ -15,15 +15,14 @@ use Rattle.form.specs.Put.{carried}
 use Rattle.form.proofs.Octets.{toBe-at, be-below}
 use Rattle.form.proofs.Pass.{seen}
 use Rattle.page.specs.Names.{microseconds}
-use Rattle.page.specs.Layout.{kind, layoutOf, stamped}
+use Rattle.page.specs.Layout.{kind, layoutOf, stamped, finer}
 use Rattle.page.specs.declared.Kind.the-variants as chosen
 use Rattle.shown.specs.Told.{restFrom}
 use Rattle.shown.specs.declared.Shown.{Shown}
 use Rattle.shown.specs.declared.Shown.the-variants.{Refused, Unread}
 use Rattle.reading.specs.One.{microAt, behind}
-use Rattle.round_trip.specs.Again.{finer}
 use Rattle.round_trip.specs.Agrees.{Same}
-use Rattle.round_trip.proofs.Choice.{Says}
+use Rattle.page.proofs.Choice.{Says}
 use Rattle.round_trip.proofs.Behind.{behind-micro}
 use Rattle.round_trip.proofs.Same.{head, rec, Stands, Reads, same, rest-is, free-agree}
 

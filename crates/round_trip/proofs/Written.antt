@@ -24,7 +24,7 @@ use Rattle.round_trip.specs.Tells.{Tells}
 use Rattle.round_trip.specs.Again.{again}
 use Rattle.round_trip.specs.Agrees.{writerOf}
 use Rattle.round_trip.specs.Forms.{forms, Formed, TailFor}
-use Rattle.round_trip.proofs.Choice.{kind-says}
+use Rattle.page.proofs.Choice.{kind-says}
 use Rattle.round_trip.proofs.Only.{only-own, refusal-own, body-refusal, own-writer}
 use Rattle.round_trip.proofs.Shows.{ShownBack, shows-fields}
 use Rattle.round_trip.proofs.Given.{same-given, formed-again}

@@ -1,10 +1,9 @@
 -- What a caller hands to a writer to write a record back that reading showed: the numbers shown, and the parts where they lie. Assumes nothing.
-use mathlib.Core.Bool.{Bool, _||_}
 use mathlib.Core.List.{List, []}
 use Prim.Native.Nat.{ℕ}
-use lib.Dec.{eqb}
 use Rattle.form.specs.Words.{choose}
 use Rattle.form.specs.Put.{Given, nothing}
+use Rattle.page.specs.Layout.{finer}
 use Rattle.shown.specs.declared.Header.{Header}
 use Rattle.shown.specs.declared.Shown.{Shown}
 use Rattle.shown.specs.declared.Shown.the-variants.{Nothing, Refused, Unread, TableDump, PeerTable, Rib, RibGeneric, Change, Message}
@@ -12,10 +11,6 @@ use Rattle.reading.specs.Answer.{within}
 use Rattle.writing.specs.declared.Time.{Time}
 use Rattle.writing.specs.declared.Time.the-variants.{Seconds, Micro}
 use Rattle.writing.specs.Givens.{unreadGiven, tableDumpGiven, peerTableGiven, ribGiven, ribGenericGiven, changeGiven, messageGiven}
-
--- the types whose message starts with microseconds
-unfoldable pub finer : (type : ℕ) → Bool
-finer type = eqb type 17 || eqb type 33 || eqb type 49
 
 abbrev pub clock : Header → Time
 clock h = choose (finer (h .ty)) (Micro (h .timestamp) (h .microseconds)) (Seconds (h .timestamp))

@@ -9,9 +9,8 @@ use lib.Dec.{eqb, ltb}
 use Rattle.form.specs.Words.{_$_, choose}
 use Rattle.form.specs.Octets.{Octets}
 use Rattle.form.specs.Put.{Value, digits, bytes, Tail, nothing, carried, items, Given}
-use Rattle.page.specs.Layout.{kind}
+use Rattle.page.specs.Layout.{kind, finer}
 use Rattle.writing.specs.Only.{tableDumps, peerTables, ribs, genericRibs, changes, messages, unreads, asOctets}
-use Rattle.round_trip.specs.Again.{finer}
 
 abbrev pub formOf : Value → Option ℕ
 formOf (digits w n) = some w

@@ -6,11 +6,13 @@ use Prim.Native.Nat.{ℕ, _-_}
 use native.Mathlib.Omega.{arith}
 use lib.ListN.{drop}
 use borrow.Author.Needs.{needs}
+use Rattle.form.specs.Octets.{Octets}
 use Rattle.form.proofs.Octets.{octets-of}
 use Rattle.cutting.specs.Cut.{mem}
 use Rattle.page.specs.Peers.{peer}
-use Rattle.moving.specs.Found.{items}
-use Rattle.moving.proofs.Found.{Next, next}
+use Rattle.form.specs.Found.{items, item}
+use Rattle.form.proofs.Found.{Next, next}
+use Rattle.look.proofs.Items.{PeerAt, peer-at}
 use Rattle.cut_items.proofs.News.{Filling, fill-starts, fill-turn, fill-done}
 use Rattle.cut_items.proofs.fill_news.Statement.{statement}
 use Rattle.cut_items.proofs.fill_news.Tie as tie
@@ -25,19 +27,26 @@ abbrev μ-loop : tie.MeasureT-loop
 μ-loop m from count mutes news₀ at₀ i₀ k₀ news at i k = count - i
 
 -- the peer at `at`, and those behind it
-ahead : (c : tie.In-loop Inv-loop μ-loop) → let a = c .before .before .before .before .before .args in
+ahead : (c : tie.In-loop Inv-loop μ-loop) → let a = c .before .before .before .before .args in
     let l = c .before .loop in
     Next peer (a .m .now) (l .at) (a .count - l .i) (l .inv .its) (l .inv .rest)
 ahead c =
-    let a = c .before .before .before .before .before .args in
+    let a = c .before .before .before .before .args in
     let l = c .before .loop in
     next peer (a .m .now) (l .at) (a .count - l .i) (l .inv .its) (l .inv .rest) (l .inv .here) (omega arith)
 
+octets : (c : tie.After-shared-slice-known Inv-loop μ-loop) → Octets (c .before .args .m .now)
+octets c = octets-of (c .before .args .m .now) (λ k. omega (arith, c .shared-slice-known .given k))
+
+there : (c : tie.In-loop Inv-loop μ-loop) → let m = c .before .before .before .before .args .m .now in
+    let at = c .before .loop .at in
+    PeerAt m at (item peer (drop at m))
+there c = peer-at _ _ (octets (c .before .before .before)) (ahead c .lies)
+
 loop-holds : tie.Need-loop-holds Inv-loop μ-loop
 loop-holds c =
-    let a = c .before .before .before .args in
-    fill-starts (a .m .now) (gone (a .mutes .now)) (a .news .now) (a .from) (a .count)
-    (octets-of (a .m .now) (λ k. omega (arith, c .before .before .shared-slice-known .given k))) (c .before .before .before .pre .0)
+    let a = c .before .before .args in
+    fill-starts (a .m .now) (gone (a .mutes .now)) (a .news .now) (a .from) (a .count) (octets (c .before)) (c .before .before .pre .0)
 
 peer-as-requires : tie.Need-peer-as-requires Inv-loop μ-loop
 peer-as-requires c κs = ahead c .lies
@@ -51,17 +60,14 @@ index-of-requires c κs = search needs
 mul-news : tie.Need-mul-news Inv-loop μ-loop
 mul-news c = search needs
 
-slice-write-news : tie.Need-slice-write-news Inv-loop μ-loop
-slice-write-news c = omega (arith, c .before .before .before .before .loop .inv .long)
+element-write-news : tie.Need-element-write-news Inv-loop μ-loop
+element-write-news c = search needs
 
 count-of-requires : tie.Need-count-of-requires Inv-loop μ-loop
 count-of-requires c κs = search needs
 
-peer-size-requires : tie.Need-peer-size-requires Inv-loop μ-loop
-peer-size-requires c κs = ahead (c .before .before .before .before) .lies
-
-add-at : tie.Need-add-at Inv-loop μ-loop
-add-at c = search needs
+peer-end-requires : tie.Need-peer-end-requires Inv-loop μ-loop
+peer-end-requires c κs = let e = there (c .before .before .before .before) in omega (arith, e .end, e .room)
 
 add-i : tie.Need-add-i Inv-loop μ-loop
 add-i c = search needs
@@ -73,19 +79,23 @@ loop-again : tie.Need-loop-again Inv-loop μ-loop
 loop-again c =
     let b = c .before .before .before .before .before in
     let l = b .before .loop in
-    let a = b .before .before .before .before .before .args in
-    fill-turn (a .m .now) (gone (a .mutes .now)) _ (a .news .now) (l .news) (a .count) (l .at) (l .i) (l .k) _ _ _ _ (l .inv) (search needs) (search needs)
-    (c .peer-size .ensures .0) (c .before .before .before .listed .ensures ∙ ap (gone (a .mutes .now)) (c .before .before .before .before .peer-as .ensures))
+    let p = b .before .before .before .before in
+    let a = p .args in
+    let n = p .pre .1 in
+    fill-turn (a .m .now) (gone (a .mutes .now)) _ (a .news .now) (l .news) (a .count) (l .at) (l .i) (l .k) _ _ _ _ (l .inv) (search needs) (omega arith)
+    (c .peer-end .ensures .1 (ahead b .lies) .0) (c .before .before .before .listed .ensures ∙ ap (gone (a .mutes .now)) (c .before .before .before .before .peer-as .ensures))
     (c .before .before .index-of .ensures) (c .before .count-of .ensures)
 
-same-length : tie.Need-same-length Inv-loop μ-loop
-same-length c = c .before .loop .inv .long
+cast-result : tie.Need-cast-result Inv-loop μ-loop
+cast-result c = let l = c .before .loop .inv in let w = l .within in let f = l .few in let p = c .before .before .before .before .pre .1 in search needs
 
 returns : tie.Need-returns Inv-loop μ-loop
 returns c =
     let l = c .before .loop in
-    let a = c .before .before .before .before .before .args in
-    fill-done (a .m .now) (gone (a .mutes .now)) _ (a .news .now) (l .news) (a .count) (l .at) (l .i) (l .k) (l .inv) (search needs) (search needs)
+    let p = c .before .before .before .before in
+    let a = p .args in
+    let n = p .pre .1 in
+    fill-done (a .m .now) (gone (a .mutes .now)) _ (a .news .now) (l .news) (a .count) (l .at) (l .i) (l .k) (l .inv) (search needs) (omega arith)
 
 pub fill-news-spec : {M : Type 1} → statement M
 fill-news-spec =
@@ -98,12 +108,11 @@ fill-news-spec =
     listed-requires
     index-of-requires
     mul-news
-    slice-write-news
+    element-write-news
     count-of-requires
-    peer-size-requires
-    add-at
+    peer-end-requires
     add-i
     loop-less
     loop-again
-    same-length
+    cast-result
     returns)

@@ -1,0 +1,111 @@
+-- `accept::accept` meets its contract. Assumes nothing.
+use Rattle.accept.specs.Sure.{microOf}
+use Rattle.accept.specs.declared.Accepted.the-variants as answer
+use native.Mathlib.Omega.{arith}
+use borrow.Author.Tests.{leb-true}
+use Rattle.accept.proofs.Leaves.{by-kind, kind-12, kind-13, kind-session, kind-unread, kind-late, if-sure, unread-leaves}
+use borrow.Author.Needs.{needs}
+use Rattle.accept.proofs.accept.Statement.{statement}
+use Rattle.accept.proofs.accept.Tie as tie
+
+number-requires : tie.Need-number-requires
+number-requires c κs = search needs
+
+number-requires-2 : tie.Need-number-requires-2
+number-requires-2 c κs = search needs
+
+table-or-rib-requires : tie.Need-table-or-rib-requires
+table-or-rib-requires c κs = search needs
+
+route-requires : tie.Need-route-requires
+route-requires c κs = search needs
+
+record-if-requires : tie.Need-record-if-requires
+record-if-requires c κs = search needs
+
+record-if-requires-2 : tie.Need-record-if-requires-2
+record-if-requires-2 c κs = search needs
+
+micro-of-requires : tie.Need-micro-of-requires
+micro-of-requires c κs = search needs
+
+add-session : tie.Need-add-session
+add-session c = search needs
+
+session-requires : tie.Need-session-requires
+session-requires c κs = search needs
+
+record-if-requires-3 : tie.Need-record-if-requires-3
+record-if-requires-3 c κs = search needs
+
+returns : tie.Need-returns
+returns c =
+    let q = c .before .before .before in
+    let a = q .before .before .args in
+    let ty = q .number .ensures .0 in
+    let sub = c .before .before .number2 .ensures .0 in
+    by-kind (a .m .now) (a .t) _ _ _ (c .table-or-rib .result) ty sub (kind-13 _ _ (c .before .match .keys1)) (c .table-or-rib .ensures)
+
+returns-2 : tie.Need-returns-2
+returns-2 c =
+    let q = c .before .before .before .before in
+    let a = q .before .before .args in
+    let ty = q .number .ensures .0 in
+    let sub = c .before .before .before .number2 .ensures .0 in
+    let sure = if-sure _ (a .t) _ _ (c .before .route .ensures (a .t)) in
+    by-kind (a .m .now) (a .t) _ _ _ (c .record-if .result) ty sub (kind-12 _ _ (c .before .before .match .keys2)) (rw (c .record-if .ensures) sure)
+
+returns-3 : tie.Need-returns-3
+returns-3 c =
+    let q = c .before .before in
+    let a = q .before .before .args in
+    let ty = q .number .ensures .0 in
+    let sub = c .before .number2 .ensures .0 in
+    by-kind (a .m .now) (a .t) _ _ _ answer.Record ty sub (kind-unread _ _ (c .match .keys3)) (unread-leaves (a .m .now) (a .t) 0 (q .before .before .pre))
+
+returns-4 : tie.Need-returns-4
+returns-4 c =
+    let q = c .before .before .before in
+    let a = q .before .before .args in
+    let ty = q .number .ensures .0 in
+    let sub = c .before .before .number2 .ensures .0 in
+    let sure = if-sure (a .m .now) (a .t) _ _ (λ e. unread-leaves (a .m .now) (a .t) 4 (leb-true 16 _ e)) in
+    by-kind (a .m .now) (a .t) _ _ _ (c .record-if2 .result) ty sub (kind-late _ _ (c .before .match .keys4)) (rw (c .record-if2 .ensures) sure)
+
+returns-5 : tie.Need-returns-5
+returns-5 c =
+    let q = c .before .before .before .before .before .before .before in
+    let a = q .before .before .args in
+    let ty = q .number .ensures .0 in
+    let sub = c .before .before .before .before .before .before .number2 .ensures .0 in
+    let micro = c .before .before .micro-of .ensures .0 in
+    let sure = if-sure (a .m .now) (a .t) _ _ (c .before .session .ensures (a .t) (microOf (q .number .result)) (rw micro)) in
+    by-kind (a .m .now) (a .t) (q .number .result) _ _ (c .record-if3 .result) ty sub (kind-session _ _ (omega arith) (omega arith)) (rw (c .record-if3 .ensures) sure)
+
+returns-6 : tie.Need-returns-6
+returns-6 c = search needs
+
+returns-7 : tie.Need-returns-7
+returns-7 c = search needs
+
+pub accept-spec : {M : Type 1} → statement M
+accept-spec =
+    tie.close
+    (tie.spec
+    number-requires
+    number-requires-2
+    table-or-rib-requires
+    route-requires
+    record-if-requires
+    record-if-requires-2
+    micro-of-requires
+    add-session
+    session-requires
+    record-if-requires-3
+    returns
+    returns-2
+    returns-3
+    returns-4
+    returns-5
+    returns-6
+    returns-7)

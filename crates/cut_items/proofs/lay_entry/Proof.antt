@@ -1,0 +1,72 @@
+-- `cut_items::lay_entry` meets its contract: the entry as it was, and its new index over the old. Assumes nothing.
+use mathlib.Core.Path.{refl, sym, _∙_}
+use Prim.Native.Nat.{_+_, _≤_}
+use native.Mathlib.Omega.{arith}
+use lib.ListN.{length}
+use borrow.Author.Needs.{needs}
+use borrow.Author.Tests.{le-leb, lt-leb}
+use Rattle.form.specs.Octets.{Octets}
+use Rattle.form.proofs.Octets.{octets-of}
+use Rattle.moving.proofs.Laid.{laid-nothing, laid-so, laid-not}
+use Rattle.cut_items.proofs.Laws.{renumbered}
+use Rattle.cut_items.proofs.lay_entry.Statement.{statement}
+use Rattle.cut_items.proofs.lay_entry.Tie as tie
+
+octets : (c : tie.After-slice-known) → Octets (c .before .before .args .m .now)
+octets c = octets-of (c .before .before .args .m .now) (λ k. omega (arith, c .before .shared-slice-known .given k))
+
+-- there is room for the entry
+room : (c : tie.Then2) → let a = c .before .before .before .before .before .args in a .s .end + a .size ≤ length (a .out .now)
+room c = let k = c .before .before in k .before .before .before .pre .1 .1 (c .if2 .taken) (k .if1 .left)
+
+returns : tie.Need-returns
+returns c =
+    let a = c .before .before .before .args in
+    rw (le-leb 65535 (a .new) (c .if1 .taken)) (omega arith, omega arith, sym (laid-nothing (a .lays) (a .out .now) (a .s .end)))
+
+add-kept : tie.Need-add-kept
+add-kept c = search needs
+
+add-end : tie.Need-add-end
+add-end c = search needs
+
+copy-block-requires : tie.Need-copy-block-requires
+copy-block-requires c κs =
+    let p = c .before .before .before .before .before .before .pre .1 .0 in
+    (omega arith, (omega arith, room (c .before)))
+
+put-number-requires : tie.Need-put-number-requires
+put-number-requires c κs = let r = room (c .before .before .before .before .before) in search needs
+
+same-length : tie.Need-same-length
+same-length c = search needs
+
+returns-2 : tie.Need-returns-2
+returns-2 c =
+    let t = c .before .before .before .before .before .before .before .before in
+    let k = t .before .before in
+    let b = k .before in
+    let p = b .before .before in
+    let a = p .args in
+    let l = c .before .before .before .before .before .before .copy-block .ensures in
+    let x = renumbered (a .m .now) (a .at) (a .peers) (a .new) (octets b) (p .pre .0) (a .out .now) _ _ (a .s .end) (a .size) (p .pre .1 .0 .0) (room t) l (c .before .before .put-number .ensures) in
+    rw (lt-leb 65535 (a .new) (k .if1 .left), t .if2 .taken) (refl, refl, x ∙ sym (laid-so (a .out .now) (a .s .end) _))
+
+returns-3 : tie.Need-returns-3
+returns-3 c =
+    let k = c .before .before in
+    let a = k .before .before .before .args in
+    rw (lt-leb 65535 (a .new) (k .if1 .left), c .if2 .left) (refl, refl, sym (laid-not (a .out .now) (a .s .end) _))
+
+pub lay-entry-spec : {M : Type 1} → statement M
+lay-entry-spec =
+    tie.close
+    (tie.spec
+    returns
+    add-kept
+    add-end
+    copy-block-requires
+    put-number-requires
+    same-length
+    returns-2
+    returns-3)

@@ -1,0 +1,54 @@
+-- `look::peer_end` meets its contract. Assumes nothing.
+use Prim.Native.Nat.{ℕ}
+use lib.ListN.{getD}
+use native.Mathlib.Omega.{arith}
+use lib.ListN.{drop}
+use Rattle.form.proofs.Octets.{octets-of}
+use Rattle.page.specs.Peers.{peer}
+use Rattle.form.specs.Found.{Lies, item}
+use Rattle.look.proofs.Items.{PeerAt, peer-at, wide-size, narrow-size, small-address}
+use borrow.Author.Needs.{needs}
+use Rattle.look.proofs.peer_end.Statement.{statement}
+use Rattle.look.proofs.peer_end.Tie as tie
+
+-- its type octet
+abbrev kind : tie.After-shared-slice-known → ℕ
+kind c = let a = c .before .args in getD (a .d .now) (a .at) 0
+
+there : (c : tie.After-shared-slice-known) → let a = c .before .args in Lies peer (drop (a .at) (a .d .now)) → PeerAt (a .d .now) (a .at) (item peer (drop (a .at) (a .d .now)))
+there c h = let a = c .before .args in peer-at (a .d .now) (a .at) (octets-of (a .d .now) (λ k. omega (arith, c .shared-slice-known .given k))) h
+
+peer-as-at-requires : tie.Need-peer-as-at-requires
+peer-as-at-requires c κs = search needs
+
+shared-slice-read-wide-as : tie.Need-shared-slice-read-wide-as
+shared-slice-read-wide-as c = search needs
+
+wide-as-requires : tie.Need-wide-as-requires
+wide-as-requires c κs = search needs
+
+add-result : tie.Need-add-result
+add-result c = omega (arith, c .before .before .before .peer-as-at .ensures, small-address (kind (c .before .before .before .before)))
+
+returns : tie.Need-returns
+returns c = let q = c .before .before .before .before in let p = c .before .before .before .peer-as-at .ensures in let s = wide-size (kind q) _ (c .before .wide-as .ensures) (c .if1 .taken) in
+    rw p (rw s, λ h. let e = there q h in (rw s at (e .end), rw s at (e .room)))
+
+add-result-2 : tie.Need-add-result-2
+add-result-2 c = omega (arith, c .before .before .before .peer-as-at .ensures, small-address (kind (c .before .before .before .before)))
+
+returns-2 : tie.Need-returns-2
+returns-2 c = let q = c .before .before .before .before in let p = c .before .before .before .peer-as-at .ensures in let s = narrow-size (kind q) _ (c .before .wide-as .ensures) (c .if1 .left) in
+    rw p (rw s, λ h. let e = there q h in (rw s at (e .end), rw s at (e .room)))
+
+pub peer-end-spec : {M : Type 1} → statement M
+peer-end-spec =
+    tie.close
+    (tie.spec
+    peer-as-at-requires
+    shared-slice-read-wide-as
+    wide-as-requires
+    add-result
+    returns
+    add-result-2
+    returns-2)
