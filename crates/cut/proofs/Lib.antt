@@ -1,4 +1,2 @@
-pub mod Laws
-pub mod Fated
 pub mod One
 pub mod Turn

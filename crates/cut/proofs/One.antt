@@ -38,11 +38,12 @@ use Rattle.cut_laws.proofs.Tables.{peersIn, TableLeft, table-left}
 use Rattle.cut_laws.proofs.Ribs.{RibLeft, rib-left, generic-left, tells-peers, tells-none}
 use Rattle.cut_laws.proofs.Stays.{table-whole, rib-whole}
 use Rattle.cut.specs.State.{mrt, stateOf, tellOf, tableOf, shownAt, recAt}
-use Rattle.cut.specs.Fate.{fateOf, octetsOf, Sound}
+use Rattle.cut_fate.specs.Fate.{fateOf}
+use Rattle.cut_lay.specs.Left.{octetsOf, Sound}
 use Rattle.cut.specs.Stands.{InStep, Stands}
 use Rattle.cut.specs.declared.InForce.{InForce}
-use Rattle.cut.specs.declared.Fate.{Fate}
-use Rattle.cut.specs.declared.Fate.the-variants.{Stays, Goes, Peers, Entries}
+use Rattle.cut_fate.specs.declared.Fate.{Fate}
+use Rattle.cut_fate.specs.declared.Fate.the-variants.{Stays, Goes, Peers, Entries}
 
 -- the count that f tells is that of the table in force
 count-is : (seen : Bool) (n : ℕ) (st : St) → Tells (tellOf seen n) st → st ≡ peersOf (numbers st) → n ≡ length (numbers st)

@@ -30,11 +30,11 @@ use Rattle.cut_laws.proofs.Shows.{shows-good}
 use Rattle.cut_laws.proofs.Loop.{front}
 use Rattle.cut_laws.proofs.Leaving.{Leaving, leave-starts, leave-last, leave-done, leave-room, leave-turn}
 use Rattle.cut.specs.State.{mrt, stateOf, tableOf, shownAt, recAt}
-use Rattle.cut.specs.Fate.{octetsOf}
+use Rattle.cut_lay.specs.Left.{octetsOf}
 use Rattle.cut.specs.Stands.{InStep, Stands}
 use Rattle.cut.specs.declared.InForce.{InForce}
-use Rattle.cut.specs.declared.Far.{Far}
-use Rattle.cut.specs.declared.Fate.{Fate}
+use Rattle.cut_lay.specs.declared.Far.{Far}
+use Rattle.cut_fate.specs.declared.Fate.{Fate}
 use Rattle.cut.proofs.One.{Is, shown-here, told-is}
 
 -- ---- the table in force

@@ -1,0 +1,96 @@
+-- `cut_lay::lay_rib` meets its contract: nothing is laid of a record that lost all its entries. Assumes nothing.
+use mathlib.Core.Path.{refl, sym, ap, _∙_}
+use mathlib.Core.List.{List}
+use Prim.Native.Nat.{ℕ, _+_, _-_}
+use native.Mathlib.Omega.{arith}
+use lib.ListN.{drop}
+use Rattle.form.specs.Body.{joins}
+use Rattle.page.specs.Rib.{entry}
+use Rattle.form.specs.Found.{items}
+use Rattle.moving.specs.Moved.{moved}
+use Rattle.moving.specs.One.{itemsLeft}
+use Rattle.moving.specs.Laid.{laid}
+use Rattle.moving.proofs.Laid.{laid-nothing}
+use Rattle.cut_lay.proofs.Laws.{items-room, front-room, laid-items, some-left, rib-stays, rib-goes}
+use borrow.Author.Needs.{needs}
+use Rattle.cut_lay.proofs.lay_rib.Statement.{statement}
+use Rattle.cut_lay.proofs.lay_rib.Tie as tie
+
+-- the entries that stay, and the record with them
+abbrev its : (c : tie.After-slice-known) → List (List (List ℕ))
+its c = let a = c .before .before .args in moved (a .news .now) (items (entry (a .peers)) (a .count) (drop (a .at + a .off) (a .d .now)))
+
+abbrev all : (c : tie.After-slice-known) → List ℕ
+all c = let a = c .before .before .args in itemsLeft (a .d .now) (a .at) (a .off - 14) (its c)
+
+add-from : tie.Need-add-from
+add-from c = let p = c .before .before .pre .0 in search needs
+
+add-room : tie.Need-add-room
+add-room c = let p = c .before .before .pre in search needs
+
+lay-entries-requires : tie.Need-lay-entries-requires
+lay-entries-requires c κs =
+    let p = c .before .before .before .pre in
+    let a = c .before .before .before .args in
+    (p .0 .2, (omega (arith, p .1 .0), λ q h. items-room (a .d .now) (a .at) (a .off) (its (c .before)) (p .0 .0) (p .0 .1) (a .lays) (a .out .now) (a .put) (rw (some-left (a .count) (its (c .before)) (all (c .before)) h) at (p .1 .1)) q))
+
+remains-requires : tie.Need-remains-requires
+remains-requires c κs = search needs
+
+sub-lay-front : tie.Need-sub-lay-front
+sub-lay-front c = search needs
+
+lay-front-requires : tie.Need-lay-front-requires
+lay-front-requires c κs =
+    let k = c .before .before .before .before .before in
+    let b = k .before .before in
+    let p = b .before .before .pre in
+    let a = b .before .before .args in
+    let e = k .lay-entries .ensures in
+    let z = rib-stays (a .count) (its b) (all b) (c .before .before .remains .ensures) (e .0) (c .before .if1 .taken) in
+    let s = p .0 .0 in (
+      (omega arith, omega (arith, p .0 .1), p .1 .0, omega (arith, e .1)),
+      front-room (a .d .now) (a .at) (a .off) (its b) (p .0 .0) (p .0 .1) (a .lays) (a .out .now) (a .put) (rw z at (p .1 .1)) (e .2) (e .0) (e .1) refl,
+    )
+
+same-length : tie.Need-same-length
+same-length c = search needs
+
+returns : tie.Need-returns
+returns c =
+    let k = c .before .before .before .before .before .before .before .before in
+    let b = k .before .before in
+    let p = b .before .before .pre in
+    let a = b .before .before .args in
+    let e = k .lay-entries .ensures in
+    let z = rib-stays (a .count) (its b) (all b) (c .before .before .before .before .before .remains .ensures) (e .0) (c .before .before .before .before .if1 .taken) in
+    rw z (laid-items (a .d .now) (a .at) (a .off) (its b) (p .0 .0) (p .0 .1) (a .lays) (a .out .now) (a .put) (rw z at (p .1 .1)) (e .2) (e .0) (e .1) refl (c .before .before .lay-front .ensures))
+
+same-length-2 : tie.Need-same-length-2
+same-length-2 c = search needs
+
+returns-2 : tie.Need-returns-2
+returns-2 c =
+    let k = c .before .before .before .before in
+    let b = k .before .before in
+    let a = b .before .before .args in
+    let e = k .lay-entries .ensures in
+    let z = rib-goes (a .count) (its b) (all b) (c .before .remains .ensures) (e .0) (c .if1 .left) in
+    rw (z .0)
+    (omega arith, e .2 ∙ ap (λ (js : List (List (List ℕ))). laid (a .lays) (a .out .now) (a .put + a .off) (joins js)) (z .1) ∙ laid-nothing (a .lays) (a .out .now) (a .put + a .off) ∙ sym (laid-nothing (a .lays) (a .out .now) (a .put)))
+
+pub lay-rib-spec : {M : Type 1} → statement M
+lay-rib-spec =
+    tie.close
+    (tie.spec
+    add-from
+    add-room
+    lay-entries-requires
+    remains-requires
+    sub-lay-front
+    lay-front-requires
+    same-length
+    returns
+    same-length-2
+    returns-2)
