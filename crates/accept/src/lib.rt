@@ -54,9 +54,9 @@ fn session_end(m: &[u8], at: usize, width: usize) -> usize
     head + 24 * family - 16
 }
 
-fn message(m: &[u8], at: usize, width: usize) -> bool
+fn message(m: &[u8], at: usize, width: usize, longest: u64) -> bool
     requires { ⌜ (at ≤ 16) × (width ≤ 4) ⌝ }
-    ensures { λ r. ⌜ (r ≡ true → Through (session width (message 4096)) (now (m .entry)) at) ⌝ }
+    ensures { λ r. ⌜ (r ≡ true → Through (session width (message longest)) (now (m .entry)) at) ⌝ }
 {
     let from = session_end(m, at, width);
     if from == 0 {
@@ -65,11 +65,11 @@ fn message(m: &[u8], at: usize, width: usize) -> bool
     if m.len() < from + 19 {
         return false;
     }
-    let n = number(m, from + 16, 2) as usize;
-    if n != m.len() - from {
+    let n = number(m, from + 16, 2);
+    if n as usize != m.len() - from {
         return false;
     }
-    n <= 4096
+    n <= longest
 }
 
 fn state(n: u64) -> bool
@@ -99,13 +99,13 @@ fn change(m: &[u8], at: usize, width: usize) -> bool
 }
 
 // The session starts at `at`, behind the microseconds.
-fn session(m: &[u8], at: usize, subtype: u64) -> bool
+fn session(m: &[u8], at: usize, subtype: u64, longest: u64) -> bool
     requires { ⌜ at ≤ 16 ⌝ }
-    ensures { λ r. ⌜ ((t : told.Table) (micro : ℕ) → at ≡ 12 + micro → Yes (now (m .entry)) t (shownAs 4096 t (now (m .entry)) (kind16 micro subtype)) r) ⌝ }
+    ensures { λ r. ⌜ ((t : told.Table) (micro : ℕ) → at ≡ 12 + micro → Yes (now (m .entry)) t (shownAs longest t (now (m .entry)) (kind16 micro subtype)) r) ⌝ }
 {
     match subtype {
         0 | 5 => change(m, at, as_width(subtype)),
-        1 | 4 | 6 | 7 => message(m, at, as_width(subtype)),
+        1 | 4 | 6 | 7 => message(m, at, as_width(subtype), longest),
         _ => false,
     }
 }
@@ -219,7 +219,7 @@ fn peers(m: &[u8], from: usize, peer_count: u64) -> bool
 }
 
 fn peer_table(m: &[u8]) -> Accepted
-    ensures { λ r. ⌜ ((t : told.Table) → Sure (now (m .entry)) t (shownAs 4096 t (now (m .entry)) PeerTable) r) ⌝ }
+    ensures { λ r. ⌜ ((longest : ℕ) (t : told.Table) → Sure (now (m .entry)) t (shownAs longest t (now (m .entry)) PeerTable) r) ⌝ }
 {
     if m.len() < 18 {
         return Accepted::Unsure;
@@ -245,7 +245,7 @@ fn record_if(good: bool) -> Accepted
 }
 
 fn table_or_rib(m: &[u8], subtype: u64, t: Table) -> Accepted
-    ensures { λ r. ⌜ Sure (now (m .entry)) t (shownAs 4096 t (now (m .entry)) (kind13 subtype)) r ⌝ }
+    ensures { λ r. ⌜ ((longest : ℕ) → Sure (now (m .entry)) t (shownAs longest t (now (m .entry)) (kind13 subtype)) r) ⌝ }
 {
     match subtype {
         1 => peer_table(m),
@@ -278,7 +278,7 @@ fn table_dump(m: &[u8], size: usize) -> bool
 }
 
 fn route(m: &[u8], subtype: u64) -> bool
-    ensures { λ r. ⌜ ((t : told.Table) → Yes (now (m .entry)) t (shownAs 4096 t (now (m .entry)) (kind12 subtype)) r) ⌝ }
+    ensures { λ r. ⌜ ((longest : ℕ) (t : told.Table) → Yes (now (m .entry)) t (shownAs longest t (now (m .entry)) (kind12 subtype)) r) ⌝ }
 {
     match subtype {
         1 => table_dump(m, 4),
@@ -287,15 +287,15 @@ fn route(m: &[u8], subtype: u64) -> bool
     }
 }
 
-// The record m, where the table t is told.
-pub fn accept(m: &[u8], t: Table) -> Accepted
+// The record m, where the table t is told and a BGP message has at most `longest` octets.
+pub fn accept(m: &[u8], t: Table, longest: u64) -> Accepted
     requires { ⌜ 12 ≤ length (now m) ⌝ }
-    ensures { λ r. ⌜ Sure (now (m .entry)) t (wholeRecord 4096 t (now (m .entry))) r ⌝ }
+    ensures { λ r. ⌜ Sure (now (m .entry)) t (wholeRecord longest t (now (m .entry))) r ⌝ }
 {
     let ty = number(m, 4, 2);
     let subtype = number(m, 6, 2);
     match ty {
-        16..=17 => record_if(session(m, 12 + micro_of(ty), subtype)),
+        16..=17 => record_if(session(m, 12 + micro_of(ty), subtype, longest)),
         13 => table_or_rib(m, subtype, t),
         12 => record_if(route(m, subtype)),
         11 | 32 | 48 => Accepted::Record,

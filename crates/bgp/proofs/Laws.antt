@@ -13,7 +13,7 @@ use Rattle.form.specs.Pass.{Seen, note, pass, whole}
 use Rattle.form.proofs.Pass.{pass-map}
 use Rattle.page.specs.Names.{peerAs, localAs, interface, family, peerAddress, localAddress}
 use Rattle.page.specs.Bgp4mp.{session, addresses}
-use Rattle.shown.specs.Told as show
+use Rattle.shown.specs.Fields as show
 use Rattle.shown.specs.declared.Session.{Session}
 use Rattle.flow.specs.Field.{fieldAt}
 use Rattle.flow.specs.declared.Num.{Num}

@@ -2,7 +2,7 @@
 use Prim.Native.Nat.{ℕ}
 use mathlib.Core.List.{List}
 use Rattle.form.specs.Pass.{Seen}
-use Rattle.shown.specs.Told.{session}
+use Rattle.shown.specs.Fields.{session}
 use Rattle.bgp.specs.declared.Met.{Met}
 use Rattle.bgp.specs.declared.Met.the-variants.{With}
 

@@ -4,9 +4,10 @@ ghost use Prim.Native.Nat.{_+_, _≤_};
 ghost use Rattle.form.specs.Fmt.{end};
 ghost use Rattle.form.specs.Pass.{pass, whole};
 ghost use Rattle.page.specs.Bgp4mp.{session, addresses, stateChange, message, messageRest};
-ghost use Rattle.shown.specs.Told.{changed, told, sessionOf};
-ghost use Rattle.shown.specs.Told as show;
-ghost use Rattle.shown.specs.declared.Shown.the-variants.{Message, Refused};
+ghost use Rattle.shown.specs.Fields.{changeOf, messageOf, sessionOf};
+ghost use Rattle.shown.specs.Fields as show;
+ghost use Rattle.shown.specs.declared.Shown.the-variants.{Good, Refused};
+ghost use Rattle.shown.specs.declared.Body.the-variants.{Message};
 ghost use Rattle.bgp.specs.Size.{addressSize};
 ghost use Rattle.bgp.specs.Met.{met};
 ghost use Rattle.bgp.specs.declared.Met.the-variants.{With, Bad};
@@ -14,10 +15,13 @@ use flow::Num;
 use flow::Room;
 use flow::field;
 use flow::skip;
+use shown::Bgp;
+use shown::Body;
 use shown::Header;
 use shown::Part;
 use shown::Session;
 use shown::Shown;
+use shown::States;
 
 // How many octets an address has.
 pub enum Size {
@@ -94,7 +98,7 @@ fn session_at(m: &[u8], at: usize, width: usize) -> Met
 }
 
 fn states(m: &[u8], at: usize, h: Header, s: Session) -> Shown
-    ensures { λ r. ⌜ r ≡ whole (changed h s) Refused stateChange (now (m .entry)) at ⌝ }
+    ensures { λ r. ⌜ r ≡ whole (changeOf h s) Refused stateChange (now (m .entry)) at ⌝ }
 {
     let Num::Value(old, a) = field(m, at, 2) else {
         return Shown::Refused(5, at);
@@ -117,7 +121,7 @@ fn states(m: &[u8], at: usize, h: Header, s: Session) -> Shown
     if b < m.len() {
         return Shown::Refused(6, b);
     }
-    Shown::Change(h, s, old, new)
+    Shown::Good(h, Body::Change(s, States { old, new }))
 }
 
 // Behind a BGP message's type octet; its length field, n, stands at `length`.
@@ -133,7 +137,7 @@ fn message_rest(
     kind: u64,
 ) -> Shown
     requires { ⌜ at ≡ length + 3 ⌝ }
-    ensures { λ r. ⌜ r ≡ whole (λ fs. Message h s (record { at = marker; size = n }) kind) Refused (messageRest most n) (now (m .entry)) at ⌝ }
+    ensures { λ r. ⌜ r ≡ whole (λ fs. Good h (Message s (record { message = record { at = marker; size = n }; kind = kind }))) Refused (messageRest most n) (now (m .entry)) at ⌝ }
 {
     if n < 19 {
         return Shown::Refused(10, length);
@@ -147,20 +151,16 @@ fn message_rest(
     if e < m.len() {
         return Shown::Refused(6, length);
     }
-    Shown::Message(
-        h,
-        s,
-        Part {
-            at: marker,
-            size: n as usize,
-        },
-        kind,
-    )
+    let message = Part {
+        at: marker,
+        size: n as usize,
+    };
+    Shown::Good(h, Body::Message(s, Bgp { message, kind }))
 }
 
 // A BGP message that starts at `at` and ends where m ends; `most` is the longest.
 pub fn message_at(m: &[u8], at: usize, most: u64, h: Header, s: Session) -> Shown
-    ensures { λ r. ⌜ r ≡ whole (told h s) Refused (message most) (now (m .entry)) at ⌝ }
+    ensures { λ r. ⌜ r ≡ whole (messageOf h s) Refused (message most) (now (m .entry)) at ⌝ }
 {
     let Room::To(a) = skip(m, at, 16) else {
         return Shown::Refused(5, at);

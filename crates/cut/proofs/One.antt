@@ -11,6 +11,7 @@ use Rattle.form.specs.Shape.{St, peersOf, asOf}
 use Rattle.form.specs.Record.{next}
 use Rattle.form.specs.Dump.{writes}
 use Rattle.page.specs.Peers.{peer}
+use Rattle.page.specs.Layout.{layout}
 use Rattle.shown.specs.declared.Part.{Part}
 use Rattle.shown.specs.declared.Header.{Header}
 use Rattle.shown.specs.declared.Session.{Session}
@@ -19,7 +20,12 @@ use Rattle.shown.specs.declared.Peers as table
 use Rattle.shown.specs.declared.Routes.{Routes}
 use Rattle.shown.specs.declared.Shown.{Shown}
 use Rattle.shown.specs.declared.Table.the-variants.{Holds}
-use Rattle.shown.specs.declared.Shown.the-variants.{Nothing, Refused, Unread, TableDump, PeerTable, Rib, RibGeneric, Change, Message}
+use Rattle.shown.specs.declared.Shown.the-variants.{Nothing, Refused, Good}
+use Rattle.shown.specs.declared.Scope.{Scope}
+use Rattle.shown.specs.declared.States.{States}
+use Rattle.shown.specs.declared.Bgp.{Bgp}
+use Rattle.shown.specs.declared.Body.{Body}
+use Rattle.shown.specs.declared.Body.the-variants.{Unread, TableDump, PeerTable, Rib, RibGeneric, Change, Message}
 use Rattle.reading.specs.Answer.{place, time}
 use Rattle.round_trip.specs.Tells.{Tells}
 use Rattle.num.specs.Be.{numAt}
@@ -32,12 +38,12 @@ use Rattle.copy.specs.Over.{over}
 use Rattle.moving.specs.Moved.{newFrom, sieved}
 use Rattle.moving.specs.One.{told, Ranked, itemsLeft, cutOne}
 use Rattle.moving.proofs.Lost.{sieved-kept}
-use Rattle.cut_laws.proofs.Shows.{Shows, shows, shows-some}
+use Rattle.cut_laws.proofs.Shows.{Shows, shows, shows-some, shows-good}
 use Rattle.cut_laws.proofs.Whole as whole
 use Rattle.cut_laws.proofs.Tables.{peersIn, TableLeft, table-left}
 use Rattle.cut_laws.proofs.Ribs.{RibLeft, rib-left, generic-left, tells-peers, tells-none}
 use Rattle.cut_laws.proofs.Stays.{table-whole, rib-whole}
-use Rattle.cut.specs.State.{mrt, stateOf, tellOf, tableOf, shownAt, recAt}
+use Rattle.cut.specs.State.{stateOf, tellOf, tableOf, shownAt, recAt}
 use Rattle.cut_fate.specs.Fate.{fateOf}
 use Rattle.cut_lay.specs.Left.{octetsOf, Sound}
 use Rattle.cut.specs.Stands.{InStep, Stands}
@@ -57,54 +63,54 @@ told-is d from count = refl
 
 -- ---- a good record stands at `at`
 
-module _ {ms news d : List ℕ} (oc : Octets d) {at : ℕ} {f : InForce} (c : Stands ms news d at f) where
+module _ {longest : ℕ} {ms news d : List ℕ} (oc : Octets d) {at : ℕ} {f : InForce} (c : Stands longest ms news d at f) where
   abbrev x : Shown
-  x = shownAt d f at
+  x = shownAt longest d f at
 
   abbrev st : St
   st = stateOf d f
 
-  pub shown-here : Shows 4096 d at st x
-  shown-here = shows 4096 d oc at (c .before) (tableOf f) st (c .step .tells) x refl (c .good)
+  pub shown-here : Shows longest d at st x
+  shown-here = shows longest d oc at (c .before) (tableOf f) st (c .step .tells) x refl (c .good)
 
   not-nothing : x ≡ Nothing → ⊥
-  not-nothing e = shows-some 4096 d oc at (c .before) (tableOf f) st (c .step .tells) e
+  not-nothing e = shows-some longest d oc at (c .before) (tableOf f) st (c .step .tells) e
 
   not-refused : (n p : ℕ) → x ≡ Refused n p → ⊥
-  not-refused n p e = omega (arith, rw e at (shown-here .same .ends))
+  not-refused n p e = shows-good 4096 d oc at (c .before) (tableOf f) st (c .step .tells) (shown-here .reads) n p e
 
   -- it ends in the dump
-  pub goes-on : (0 < place (shownAt d f at)) × (at + place (shownAt d f at) ≤ length d)
+  pub goes-on : (0 < place (shownAt longest d f at)) × (at + place (shownAt longest d f at) ≤ length d)
   goes-on = (omega (arith, shown-here .ends), shown-here .inside)
 
   module _ (from to : ℕ) where
     abbrev in-window : Header → Bool
     in-window h = leb from (time h) && ltb (time h) to
 
-    whole-unread : (h : Header) (p : Part) → x ≡ Unread h p → whole.Whole 4096 from to ms d at st (Unread h p) (in-window h)
-    whole-unread h p e = whole.unread-left 4096 from to ms d oc at (c .before) (tableOf f) st (c .step .tells) h p e
+    whole-unread : (h : Header) (p : Part) → x ≡ Good h (Unread p) → whole.Whole longest from to ms d at st (Good h (Unread p)) (in-window h)
+    whole-unread h p e = whole.unread-left longest from to ms d oc at (c .before) (tableOf f) st (c .step .tells) h p e
 
-    whole-table-dump : (h : Header) (r : Route) → x ≡ TableDump h r → whole.Whole 4096 from to ms d at st (TableDump h r) (in-window h && not (mem (r .peer) ms))
-    whole-table-dump h r e = whole.table-dump-left 4096 from to ms d oc at (c .before) (tableOf f) st (c .step .tells) h r e
+    whole-table-dump : (h : Header) (r : Route) → x ≡ Good h (TableDump r) → whole.Whole longest from to ms d at st (Good h (TableDump r)) (in-window h && not (mem (r .peer) ms))
+    whole-table-dump h r e = whole.table-dump-left longest from to ms d oc at (c .before) (tableOf f) st (c .step .tells) h r e
 
-    whole-change : (h : Header) (r : Session) (o n : ℕ) → x ≡ Change h r o n → whole.Whole 4096 from to ms d at st (Change h r o n) (in-window h && not (mem (r .peer) ms))
-    whole-change h r o n e = whole.change-left 4096 from to ms d oc at (c .before) (tableOf f) st (c .step .tells) h r o n e
+    whole-change : (h : Header) (r : Session) (v : States) → x ≡ Good h (Change r v) → whole.Whole longest from to ms d at st (Good h (Change r v)) (in-window h && not (mem (r .peer) ms))
+    whole-change h r v e = whole.change-left longest from to ms d oc at (c .before) (tableOf f) st (c .step .tells) h r v e
 
-    whole-message : (h : Header) (r : Session) (p : Part) (n : ℕ) → x ≡ Message h r p n → whole.Whole 4096 from to ms d at st (Message h r p n) (in-window h && not (mem (r .peer) ms))
-    whole-message h r p n e = whole.message-left 4096 from to ms d oc at (c .before) (tableOf f) st (c .step .tells) h r p n e
+    whole-message : (h : Header) (r : Session) (v : Bgp) → x ≡ Good h (Message r v) → whole.Whole longest from to ms d at st (Good h (Message r v)) (in-window h && not (mem (r .peer) ms))
+    whole-message h r v e = whole.message-left longest from to ms d oc at (c .before) (tableOf f) st (c .step .tells) h r v e
 
-    table-here : (h : Header) (p : table.Peers) → x ≡ PeerTable h p → TableLeft 4096 from to ms d at st h p
-    table-here h p e = table-left 4096 from to ms d oc at (c .before) (tableOf f) st (c .step .tells) h p e
+    table-here : (h : Header) (p : table.Peers) → x ≡ Good h (PeerTable p) → TableLeft longest from to ms d at st h p
+    table-here h p e = table-left longest from to ms d oc at (c .before) (tableOf f) st (c .step .tells) h p e
 
     -- RIB records, of both kinds, whatever new indexes are the table's
     abbrev AsRib : Shown → Header → Routes → Type 0
-    AsRib y h e = (more : List ℕ) → Ranked (λ n. mem n ms) more st → RibLeft 4096 from to ms more d at st y h e
+    AsRib y h e = (more : List ℕ) → Ranked (λ n. mem n ms) more st → RibLeft longest from to ms more d at st y h e
 
-    rib-here : (h : Header) (e : Routes) → x ≡ Rib h e → AsRib (Rib h e) h e
-    rib-here h e q more k = rib-left 4096 from to ms more d at oc (c .before) (tableOf f) st (c .step .tells) k h e q
+    rib-here : (h : Header) (e : Routes) → x ≡ Good h (Rib e) → AsRib (Good h (Rib e)) h e
+    rib-here h e q more k = rib-left longest from to ms more d at oc (c .before) (tableOf f) st (c .step .tells) k h e q
 
-    generic-here : (h : Header) (a i : ℕ) (e : Routes) → x ≡ RibGeneric h a i e → AsRib (RibGeneric h a i e) h e
-    generic-here h a i e q more k = generic-left 4096 from to ms more d at oc (c .before) (tableOf f) st (c .step .tells) k h a i e q
+    generic-here : (h : Header) (a : Scope) (e : Routes) → x ≡ Good h (RibGeneric a e) → AsRib (Good h (RibGeneric a e)) h e
+    generic-here h a e q more k = generic-left longest from to ms more d at oc (c .before) (tableOf f) st (c .step .tells) k h a e q
 
   -- ---- the table in force behind it
 
@@ -113,59 +119,59 @@ module _ {ms news d : List ℕ} (oc : Octets d) {at : ℕ} {f : InForce} (c : St
     pub few : n < 65536
     pub lie : Lie peer n (drop from d)
     pub many : length (items peer n (drop from d)) ≡ n
-    pub next : next mrt (recAt d f at) st ≡ told peer d true from n
+    pub next : next (layout longest) (recAt longest d f at) st ≡ told peer d true from n
     pub tells : Tells (Holds n) (told peer d true from n)
     pub ranked : (more : List ℕ) → n ≤ length more → Ranked (λ k. mem k ms) (over more 0 (newFrom (λ k. mem k ms) (map (asOf peer) (items peer n (drop from d))) 0)) (told peer d true from n)
 
   by-table : (y : Shown) → x ≡ y → isTable (sortOf y) ≡ true → (from n : ℕ) → from ≡ at + itemsAt y → n ≡ countOf y → Peered from n
   by-table Nothing e o from n a b = absurd (false≢true o)
   by-table (Refused m p) e o from n a b = absurd (false≢true o)
-  by-table (Unread h p) e o from n a b = absurd (false≢true o)
-  by-table (TableDump h r) e o from n a b = absurd (false≢true o)
-  by-table (PeerTable h p) e o from n a b =
+  by-table (Good h (Unread p)) e o from n a b = absurd (false≢true o)
+  by-table (Good h (TableDump r)) e o from n a b = absurd (false≢true o)
+  by-table (Good h (PeerTable p)) e o from n a b =
       let t = table-here 0 0 h p e in
       rw (a, b) (record { few = t .held .few; lie = t .held .lie; many = t .held .many; next = t .next; tells = t .tells; ranked = t .ranked })
-  by-table (Rib h r) e o from n a b = absurd (false≢true o)
-  by-table (RibGeneric h m i r) e o from n a b = absurd (false≢true o)
-  by-table (Change h r m k) e o from n a b = absurd (false≢true o)
-  by-table (Message h r p m) e o from n a b = absurd (false≢true o)
+  by-table (Good h (Rib r)) e o from n a b = absurd (false≢true o)
+  by-table (Good h (RibGeneric i r)) e o from n a b = absurd (false≢true o)
+  by-table (Good h (Change r v)) e o from n a b = absurd (false≢true o)
+  by-table (Good h (Message r v)) e o from n a b = absurd (false≢true o)
 
   pub peered : {r n : ℕ} → Counted d at r x → n ≡ numAt d r 2 → isTable (sortOf x) ≡ true → Peered (r + 2) n
   peered {r} {n} k e o = by-table x refl o (r + 2) n (k .items) (e ∙ k .many)
 
   -- any other record leaves the table in force that there was
-  same-state : (y : Shown) → x ≡ y → isTable (sortOf y) ≡ false → st ≡ next mrt (recAt d f at) st
+  same-state : (y : Shown) → x ≡ y → isTable (sortOf y) ≡ false → st ≡ next (layout longest) (recAt longest d f at) st
   same-state Nothing e n = absurd (not-nothing e)
   same-state (Refused a b) e n = absurd (not-refused a b e)
-  same-state (Unread h p) e n = sym (whole-unread 0 0 h p e .next)
-  same-state (TableDump h r) e n = sym (whole-table-dump 0 0 h r e .next)
-  same-state (PeerTable h p) e n = absurd (false≢true (sym n))
-  same-state (Rib h r) e n = sym (rib-here 0 0 h r e news (c .step .ranked) .next)
-  same-state (RibGeneric h a i r) e n = sym (generic-here 0 0 h a i r e news (c .step .ranked) .next)
-  same-state (Change h r o k) e n = sym (whole-change 0 0 h r o k e .next)
-  same-state (Message h r p k) e n = sym (whole-message 0 0 h r p k e .next)
+  same-state (Good h (Unread p)) e n = sym (whole-unread 0 0 h p e .next)
+  same-state (Good h (TableDump r)) e n = sym (whole-table-dump 0 0 h r e .next)
+  same-state (Good h (PeerTable p)) e n = absurd (false≢true (sym n))
+  same-state (Good h (Rib r)) e n = sym (rib-here 0 0 h r e news (c .step .ranked) .next)
+  same-state (Good h (RibGeneric a r)) e n = sym (generic-here 0 0 h a r e news (c .step .ranked) .next)
+  same-state (Good h (Change r v)) e n = sym (whole-change 0 0 h r v e .next)
+  same-state (Good h (Message r v)) e n = sym (whole-message 0 0 h r v e .next)
 
-  pub table-stays : isTable (sortOf x) ≡ false → st ≡ next mrt (recAt d f at) st
+  pub table-stays : isTable (sortOf x) ≡ false → st ≡ next (layout longest) (recAt longest d f at) st
   table-stays n = same-state x refl n
 
   -- ---- what becomes of it: it ends at `end`, and behind it g is in force, with the new indexes `fresh`
 
-  module _ (from to : ℕ) {fresh : List ℕ} {g : InForce} {end : ℕ} (ends : end ≡ at + place (shownAt d f at)) (behind : stateOf d g ≡ next mrt (recAt d f at) (stateOf d f)) (step : InStep ms fresh d g) where
+  module _ (from to : ℕ) {fresh : List ℕ} {g : InForce} {end : ℕ} (ends : end ≡ at + place (shownAt longest d f at)) (behind : stateOf d g ≡ next (layout longest) (recAt longest d f at) (stateOf d f)) (step : InStep ms fresh d g) where
     abbrev pub Is : Fate → Type 0
-    Is l = (octetsOf fresh d at end (g .count) l ≡ writes (cutOne mrt (cutting from to ms) (stateOf d f) (recAt d f at))) × Sound d at (g .count) l
+    Is l = (octetsOf fresh d at end (g .count) l ≡ writes (cutOne (layout longest) (cutting from to ms) (stateOf d f) (recAt longest d f at))) × Sound d at (g .count) l
 
     -- it stays as it is
-    by-stays : (y : Shown) → x ≡ y → writes (cutOne mrt (cutting from to ms) st (recAt d f at)) ≡ take (place y) (drop at d) → Is Stays
+    by-stays : (y : Shown) → x ≡ y → writes (cutOne (layout longest) (cutting from to ms) st (recAt longest d f at)) ≡ take (place y) (drop at d) → Is Stays
     by-stays y e w = let m : end - at ≡ place x = omega (arith, ends) in let n : end - at ≡ place y = rw e at m in (rw n (sym w), tt)
 
-    by-whole : (y : Shown) (b : Bool) → x ≡ y → whole.Whole 4096 from to ms d at st y b → Is (cond b Stays Goes)
+    by-whole : (y : Shown) (b : Bool) → x ≡ y → whole.Whole longest from to ms d at st y b → Is (cond b Stays Goes)
     by-whole y true e w = by-stays y e (w .left)
     by-whole y false e w = (sym (w .left), tt)
 
-    by-peers : (h : Header) (p : table.Peers) → x ≡ PeerTable h p → Is (cond (g .lost) (Peers (p .peers .at) (p .count)) Stays)
+    by-peers : (h : Header) (p : table.Peers) → x ≡ Good h (PeerTable p) → Is (cond (g .lost) (Peers (p .peers .at) (p .count)) Stays)
     by-peers h p e = go (g .lost) refl
       where
-        w : TableLeft 4096 from to ms d at st h p
+        w : TableLeft longest from to ms d at st h p
         w = table-here from to h p e
 
         is : stateOf d g ≡ peersOf (map (asOf peer) (peersIn d at p))
@@ -179,7 +185,7 @@ module _ {ms news d : List ℕ} (oc : Octets d) {at : ℕ} {f : InForce} (c : St
           ap (itemsLeft d at (p .peers .at - 14)) kept-is ∙ sym (w .left),
           (omega (arith, w .held .starts), omega (arith, w .held .all, w .shown .inside, w .shown .ends), w .held .few, w .held .lie),
         )
-        go false z = by-stays (PeerTable h p) e (table-whole w (subst (λ (s : St). length (kept (λ n. mem n ms) (numbers s)) ≡ length (numbers s)) is (step .none z)))
+        go false z = by-stays (Good h (PeerTable p)) e (table-whole w (subst (λ (s : St). length (kept (λ n. mem n ms) (numbers s)) ≡ length (numbers s)) is (step .none z)))
 
     by-rib : (y : Shown) (h : Header) (r : Routes) → x ≡ y → AsRib from to y h r → Is (cond (in-window from to h) (cond (g .lost) (Entries (r .entries .at) (r .count)) Stays) Goes)
     by-rib y h r e as-rib = go (in-window from to h) refl (g .lost) refl
@@ -188,7 +194,7 @@ module _ {ms news d : List ℕ} (oc : Octets d) {at : ℕ} {f : InForce} (c : St
         is : stateOf d g ≡ st
         is = behind ∙ as-rib news (c .step .ranked) .next
 
-        w : RibLeft 4096 from to ms fresh d at st y h r
+        w : RibLeft longest from to ms fresh d at st y h r
         w = as-rib fresh (subst (Ranked (λ n. mem n ms) fresh) is (step .ranked))
 
         many : g .count ≡ length (numbers st)
@@ -206,13 +212,13 @@ module _ {ms news d : List ℕ} (oc : Octets d) {at : ℕ} {f : InForce} (c : St
     unfolding fateOf
     fated Nothing e = absurd (not-nothing e)
     fated (Refused a b) e = absurd (not-refused a b e)
-    fated (Unread h p) e = by-whole (Unread h p) _ e (whole-unread from to h p e)
-    fated (TableDump h r) e = by-whole (TableDump h r) _ e (whole-table-dump from to h r e)
-    fated (PeerTable h p) e = by-peers h p e
-    fated (Rib h r) e = by-rib (Rib h r) h r e (rib-here from to h r e)
-    fated (RibGeneric h a i r) e = by-rib (RibGeneric h a i r) h r e (generic-here from to h a i r e)
-    fated (Change h r a n) e = by-whole (Change h r a n) _ e (whole-change from to h r a n e)
-    fated (Message h r p n) e = by-whole (Message h r p n) _ e (whole-message from to h r p n e)
+    fated (Good h (Unread p)) e = by-whole _ _ e (whole-unread from to h p e)
+    fated (Good h (TableDump r)) e = by-whole _ _ e (whole-table-dump from to h r e)
+    fated (Good h (PeerTable p)) e = by-peers h p e
+    fated (Good h (Rib r)) e = by-rib _ h r e (rib-here from to h r e)
+    fated (Good h (RibGeneric a r)) e = by-rib _ h r e (generic-here from to h a r e)
+    fated (Good h (Change r v)) e = by-whole _ _ e (whole-change from to h r v e)
+    fated (Good h (Message r v)) e = by-whole _ _ e (whole-message from to h r v e)
 
     pub fate-is : (l : Fate) → l ≡ fateOf from to ms (g .lost) x → Is l
     fate-is l k = rw k (fated x refl)

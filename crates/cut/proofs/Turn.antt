@@ -12,8 +12,9 @@ use Rattle.form.specs.Record.{next}
 use Rattle.form.specs.Shape.{asOf}
 use Rattle.form.specs.Dump.{Splits}
 use Rattle.page.specs.Peers.{peer}
+use Rattle.page.specs.Layout.{layout}
 use Rattle.shown.specs.declared.Shown.{Shown}
-use Rattle.shown.specs.declared.Shown.the-variants.{Nothing, Refused, Unread, TableDump, PeerTable, Rib, RibGeneric, Change, Message}
+use Rattle.shown.specs.declared.Shown.the-variants.{Nothing, Refused, Good}
 use Rattle.reading.specs.Answer.{fault, place}
 use Rattle.cutting.specs.Keep.{kept}
 use Rattle.cutting.specs.Cut.{mem, cutting, numbers}
@@ -29,7 +30,7 @@ use Rattle.cut_laws.specs.Answer.{leftOf}
 use Rattle.cut_laws.proofs.Shows.{shows-good}
 use Rattle.cut_laws.proofs.Loop.{front}
 use Rattle.cut_laws.proofs.Leaving.{Leaving, leave-starts, leave-last, leave-done, leave-room, leave-turn}
-use Rattle.cut.specs.State.{mrt, stateOf, tableOf, shownAt, recAt}
+use Rattle.cut.specs.State.{stateOf, tableOf, shownAt, recAt}
 use Rattle.cut_lay.specs.Left.{octetsOf}
 use Rattle.cut.specs.Stands.{InStep, Stands}
 use Rattle.cut.specs.declared.InForce.{InForce}
@@ -67,49 +68,43 @@ none-lost ms d from n k e many z =
 good-with : (x : Shown) → ((n p : ℕ) → x ≡ Refused n p → ⊥) → fault x ≡ 0
 good-with Nothing h = refl
 good-with (Refused n p) h = absurd (h n p refl)
-good-with (Unread a b) h = refl
-good-with (TableDump a b) h = refl
-good-with (PeerTable a b) h = refl
-good-with (Rib a b) h = refl
-good-with (RibGeneric a b c e) h = refl
-good-with (Change a b c e) h = refl
-good-with (Message a b c e) h = refl
+good-with (Good a b) h = refl
 
 -- ---- the loop
 
-pub record Turn (from to : ℕ) (ms d : List ℕ) (lays : Bool) (news out₀ out : List ℕ) (at : ℕ) (s : Far) (f : InForce) : Type 0 where
+pub record Turn (longest from to : ℕ) (ms d : List ℕ) (lays : Bool) (news out₀ out : List ℕ) (at : ℕ) (s : Far) (f : InForce) : Type 0 where
   pub long : length news ≡ 65536
   pub step : InStep ms news d f
-  pub leaves : Leaving mrt (cutting from to ms) lays d out₀ out (stateOf d f) at (s .run) (s .put)
+  pub leaves : Leaving (layout longest) (cutting from to ms) lays d out₀ out (stateOf d f) at (s .run) (s .put)
 
-pub turn-starts : (from to : ℕ) (ms d : List ℕ) (lays : Bool) (news out : List ℕ) → Splits mrt d → length news ≡ 65536 → Turn from to ms d lays news out out 0 (record { run = 0; put = 0 }) none
+pub turn-starts : (longest from to : ℕ) (ms d : List ℕ) (lays : Bool) (news out : List ℕ) → Splits (layout longest) d → length news ≡ 65536 → Turn longest from to ms d lays news out out 0 (record { run = 0; put = 0 }) none
 unfolding told
-turn-starts from to ms d lays news out s l = record { long = l; step = starts ms news d; leaves = leave-starts mrt (cutting from to ms) lays d out s }
+turn-starts longest from to ms d lays news out s l = record { long = l; step = starts ms news d; leaves = leave-starts (layout longest) (cutting from to ms) lays d out s }
 
-module _ {from to : ℕ} {ms d : List ℕ} {lays : Bool} {news out₀ out : List ℕ} {at : ℕ} {s : Far} {f : InForce} (i : Turn from to ms d lays news out₀ out at s f) where
-  pub turn-stands : Octets d → at < length d → Stands ms news d at f
+module _ {longest from to : ℕ} {ms d : List ℕ} {lays : Bool} {news out₀ out : List ℕ} {at : ℕ} {s : Far} {f : InForce} (i : Turn longest from to ms d lays news out₀ out at s f) where
+  pub turn-stands : Octets d → at < length d → Stands longest ms news d at f
   turn-stands oc more =
-      let w = front mrt (cutting from to ms) d (stateOf d f) at (i .leaves .rs) (i .leaves .here) more in
-      let g = good-with (shownAt d f at) (λ n p z. shows-good 4096 d oc at more (tableOf f) (stateOf d f) (i .step .tells) (w .reads) n p z) in
+      let w = front (layout longest) (cutting from to ms) d (stateOf d f) at (i .leaves .rs) (i .leaves .here) more in
+      let g = good-with (shownAt longest d f at) (λ n p z. shows-good longest d oc at more (tableOf f) (stateOf d f) (i .step .tells) (w .reads) n p z) in
       record { before = more; good = g; step = i .step }
 
-  module _ (fits : lays ≡ true → length (leftOf 4096 from to ms d) ≤ length out₀) where
+  module _ (fits : lays ≡ true → length (leftOf longest from to ms d) ≤ length out₀) where
     pub turn-last : Room lays out (s .put) (at - s .run)
-    turn-last = leave-last mrt (cutting from to ms) (i .leaves) fits
+    turn-last = leave-last (layout longest) (cutting from to ms) (i .leaves) fits
 
     pub turn-done : length d ≤ at → {out′ : List ℕ} {r : ℕ} → r ≡ s .put + (at - s .run) → out′ ≡ laid lays out (s .put) (between d (s .run) at)
-        → (r ≡ length (leftOf 4096 from to ms d)) × (out′ ≡ laid lays out₀ 0 (leftOf 4096 from to ms d))
-    turn-done h p q = leave-done mrt (cutting from to ms) (i .leaves) fits h p q
+        → (r ≡ length (leftOf longest from to ms d)) × (out′ ≡ laid lays out₀ 0 (leftOf longest from to ms d))
+    turn-done h p q = leave-done (layout longest) (cutting from to ms) (i .leaves) fits h p q
 
-    module _ (oc : Octets d) (h : Stands ms news d at f) {fresh : List ℕ} {g : InForce} {end : ℕ} (ends : end ≡ at + place (shownAt d f at)) (behind : stateOf d g ≡ next mrt (recAt d f at) (stateOf d f))
+    module _ (oc : Octets d) (h : Stands longest ms news d at f) {fresh : List ℕ} {g : InForce} {end : ℕ} (ends : end ≡ at + place (shownAt longest d f at)) (behind : stateOf d g ≡ next (layout longest) (recAt longest d f at) (stateOf d f))
         (step : InStep ms fresh d g) (l : Fate) (is : Is oc h from to ends behind step l) where
       pub turn-room : Room lays out (s .put) (at - s .run + length (octetsOf fresh d at end (g .count) l))
-      turn-room q = omega (arith, leave-room mrt (cutting from to ms) (i .leaves) fits (h .before) q, ap length (is .0))
+      turn-room q = omega (arith, leave-room (layout longest) (cutting from to ms) (i .leaves) fits (h .before) q, ap length (is .0))
 
       pub turn-on : length fresh ≡ 65536 → {out′ : List ℕ} {t : Far} → Passed lays d out out′ (octetsOf fresh d at end (g .count) l) at end (s .run) (s .put) (t .run) (t .put)
-          → Turn from to ms d lays fresh out₀ out′ end t g
+          → Turn longest from to ms d lays fresh out₀ out′ end t g
       turn-on n {out′} {t} p =
-          let q : Passed lays d out out′ (octetsOf fresh d at end (g .count) l) at (at + place (shownAt d f at)) (s .run) (s .put) (t .run) (t .put) =
+          let q : Passed lays d out out′ (octetsOf fresh d at end (g .count) l) at (at + place (shownAt longest d f at)) (s .run) (s .put) (t .run) (t .put) =
           subst (λ (e : ℕ). Passed lays d out out′ (octetsOf fresh d at end (g .count) l) at e (s .run) (s .put) (t .run) (t .put)) ends p in
-          let v = leave-turn mrt (cutting from to ms) (i .leaves) fits (h .before) (shown-here oc h .ends) behind (is .0) q in
-          record { long = n; step = step; leaves = subst (λ (e : ℕ). Leaving mrt (cutting from to ms) lays d out₀ out′ (stateOf d g) e (t .run) (t .put)) (sym ends) v }
+          let v = leave-turn (layout longest) (cutting from to ms) (i .leaves) fits (h .before) (shown-here oc h .ends) behind (is .0) q in
+          record { long = n; step = step; leaves = subst (λ (e : ℕ). Leaving (layout longest) (cutting from to ms) lays d out₀ out′ (stateOf d g) e (t .run) (t .put)) (sym ends) v }

@@ -19,7 +19,7 @@ pub record InStep (ms news d : List ℕ) (f : InForce) : Type 0 where
   pub none : f .lost ≡ false → length (kept (λ n. mem n ms) (numbers (stateOf d f))) ≡ length (numbers (stateOf d f))
 
 -- a good record stands at `at`, before which f is in force
-pub record Stands (ms news d : List ℕ) (at : ℕ) (f : InForce) : Type 0 where
+pub record Stands (longest : ℕ) (ms news d : List ℕ) (at : ℕ) (f : InForce) : Type 0 where
   pub before : at < length d
-  pub good : fault (shownAt d f at) ≡ 0
+  pub good : fault (shownAt longest d f at) ≡ 0
   pub step : InStep ms news d f

@@ -7,10 +7,13 @@ ghost use lib.Dec.{leb};
 ghost use lib.ListN.{length};
 ghost use Rattle.form.specs.Record.{next};
 ghost use Rattle.form.specs.Dump.{Splits};
+ghost use Rattle.page.specs.Bgp4mp.{longestMessage};
+ghost use Rattle.page.specs.Layout.{layout};
 ghost use Rattle.moving.specs.Laid.{laid};
-ghost use Rattle.cut_laws.specs.Answer.{leftOf, cutted, holds, cutAnswer, leaves};
+ghost use Rattle.cut_laws.specs.Answer.{leftOf, cutAnswer, leaves};
+ghost use Rattle.room_spec.specs.Room.{written, holds};
 ghost use Rattle.look.specs.Sort.{sortOf, isTable};
-ghost use Rattle.cut.specs.State.{mrt, stateOf, shownAt, recAt};
+ghost use Rattle.cut.specs.State.{stateOf, shownAt, recAt};
 ghost use Rattle.cut.specs.Stands.{InStep, Stands};
 use cut_fate::Window;
 use cut_fate::fate_of;
@@ -18,14 +21,15 @@ use cut_items::fill_news;
 use cut_lay::Far;
 use cut_lay::lay;
 use cut_lay::pass;
-use cutting::Cutted;
 use look::count;
 use look::end_at;
 use look::is_peer_table;
 use look::peer_count_at;
 use look::subtype_of;
 use look::type_of;
-use walk::walk;
+use page::LONGEST_MESSAGE;
+use room_spec::Written;
+use walk::walk_with;
 
 // The table in force: whether there is one, where its peers start in the dump, how many they are, and whether any of them goes.
 pub struct InForce {
@@ -43,11 +47,12 @@ fn table_behind(
     f: InForce,
     mutes: &[u32],
     news: &mut [u16; 65536],
+    longest: u64,
 ) -> InForce
-    requires { ⌜ Stands (now mutes) (now news) (now d) at f ⌝ }
-    requires { ⌜ table ≡ isTable (sortOf (shownAt (now d) f at)) ⌝ }
+    requires { ⌜ Stands longest (now mutes) (now news) (now d) at f ⌝ }
+    requires { ⌜ table ≡ isTable (sortOf (shownAt longest (now d) f at)) ⌝ }
     requires { ⌜ length (now news) ≡ 65536 ⌝ }
-    ensures { λ r. ⌜ (stateOf (now (d .entry)) r ≡ next mrt (recAt (now (d .entry)) f at) (stateOf (now (d .entry)) f)) × InStep (now (mutes .entry)) (now (news .exit)) (now (d .entry)) r × (length (now (news .exit)) ≡ 65536) ⌝ }
+    ensures { λ r. ⌜ (stateOf (now (d .entry)) r ≡ next (layout longest) (recAt longest (now (d .entry)) f at) (stateOf (now (d .entry)) f)) × InStep (now (mutes .entry)) (now (news .exit)) (now (d .entry)) r × (length (now (news .exit)) ≡ 65536) ⌝ }
 {
     if table {
         let counted = peer_count_at(d, at);
@@ -72,11 +77,12 @@ fn leave(
     news: &mut [u16; 65536],
     out: &mut [u8],
     lays: bool,
+    longest: u64,
 ) -> usize
-    requires { ⌜ Splits mrt (now d) ⌝ }
+    requires { ⌜ Splits (layout longest) (now d) ⌝ }
     requires { ⌜ length (now news) ≡ 65536 ⌝ }
-    requires { ⌜ (lays ≡ true → length (leftOf 4096 (w .start) (w .end) (now mutes) (now d)) ≤ length (now out)) ⌝ }
-    ensures { λ r. ⌜ (r ≡ length (leftOf 4096 (w .start) (w .end) (now (mutes .entry)) (now (d .entry)))) × (now (out .exit) ≡ laid lays (now (out .entry)) 0 (leftOf 4096 (w .start) (w .end) (now (mutes .entry)) (now (d .entry)))) × (length (now (news .exit)) ≡ 65536) ⌝ }
+    requires { ⌜ (lays ≡ true → length (leftOf longest (w .start) (w .end) (now mutes) (now d)) ≤ length (now out)) ⌝ }
+    ensures { λ r. ⌜ (r ≡ length (leftOf longest (w .start) (w .end) (now (mutes .entry)) (now (d .entry)))) × (now (out .exit) ≡ laid lays (now (out .entry)) 0 (leftOf longest (w .start) (w .end) (now (mutes .entry)) (now (d .entry)))) × (length (now (news .exit)) ≡ 65536) ⌝ }
 {
     let mut at = 0;
     let mut s = Far { run: 0, put: 0 };
@@ -89,7 +95,7 @@ fn leave(
     while at < d.len() {
         let ty = type_of(d, at);
         let subtype = subtype_of(d, at);
-        f = table_behind(d, at, is_peer_table(ty, subtype), f, mutes, news);
+        f = table_behind(d, at, is_peer_table(ty, subtype), f, mutes, news, longest);
         let next = end_at(d, at);
         let lost = f.lost;
         let peers = f.count;
@@ -103,41 +109,62 @@ fn leave(
 }
 
 // Whether what is left of a dump goes into out. It is never longer than the dump, and is measured only for a shorter buffer.
-fn fits(dump: &[u8], w: Window, mutes: &[u32], news: &mut [u16; 65536], out: &mut [u8]) -> bool
-    requires { ⌜ Splits mrt (now dump) ⌝ }
+fn fits(
+    dump: &[u8],
+    w: Window,
+    mutes: &[u32],
+    news: &mut [u16; 65536],
+    out: &mut [u8],
+    longest: u64,
+) -> bool
+    requires { ⌜ Splits (layout longest) (now dump) ⌝ }
     requires { ⌜ length (now news) ≡ 65536 ⌝ }
-    ensures { λ r. ⌜ (r ≡ leb (length (leftOf 4096 (w .start) (w .end) (now (mutes .entry)) (now (dump .entry)))) (length (now (out .entry)))) × (now (out .exit) ≡ now (out .entry)) × (length (now (news .exit)) ≡ 65536) ⌝ }
+    ensures { λ r. ⌜ (r ≡ leb (length (leftOf longest (w .start) (w .end) (now (mutes .entry)) (now (dump .entry)))) (length (now (out .entry)))) × (now (out .exit) ≡ now (out .entry)) × (length (now (news .exit)) ≡ 65536) ⌝ }
 {
     if out.len() < dump.len() {
-        return leave(dump, w, mutes, news, out, false) <= out.len();
+        return leave(dump, w, mutes, news, out, false, longest) <= out.len();
     }
     true
 }
 
 // The cut of a dump that is good.
-fn left_of(dump: &[u8], w: Window, mutes: &[u32], out: &mut [u8]) -> Cutted
-    requires { ⌜ Splits mrt (now dump) ⌝ }
-    ensures { λ r. ⌜ (r ≡ cutted 0 0 (leftOf 4096 (w .start) (w .end) (now (mutes .entry)) (now (dump .entry))) (now (out .entry))) × (now (out .exit) ≡ holds 0 (leftOf 4096 (w .start) (w .end) (now (mutes .entry)) (now (dump .entry))) (now (out .entry))) ⌝ }
+fn left_of(dump: &[u8], w: Window, mutes: &[u32], out: &mut [u8], longest: u64) -> Written
+    requires { ⌜ Splits (layout longest) (now dump) ⌝ }
+    ensures { λ r. ⌜ (r ≡ written 0 0 (leftOf longest (w .start) (w .end) (now (mutes .entry)) (now (dump .entry))) (now (out .entry))) × (now (out .exit) ≡ holds 0 (leftOf longest (w .start) (w .end) (now (mutes .entry)) (now (dump .entry))) (now (out .entry))) ⌝ }
 {
     let mut news = [0u16; 65536];
-    if fits(dump, w, mutes, &mut news, out) {
-        return Cutted::Octets(leave(dump, w, mutes, &mut news, out, true));
+    if fits(dump, w, mutes, &mut news, out, longest) {
+        return Written::Octets(leave(dump, w, mutes, &mut news, out, true, longest));
     }
-    Cutted::Refused(15, 0)
+    Written::Refused(15, 0)
 }
 
-// What is left of a dump inside the window from start up to but not including end, without the peers whose AS is on the list.
-pub fn cut(dump: &[u8], start: u64, end: u64, mutes: &[u32], out: &mut [u8]) -> Cutted
-    ensures { λ r. ⌜ (r ≡ cutAnswer 4096 start end (now (mutes .entry)) (now (dump .entry)) (now (out .entry))) × (now (out .exit) ≡ leaves 4096 start end (now (mutes .entry)) (now (dump .entry)) (now (out .entry))) ⌝ }
+// What is left of a dump inside the window from start up to but not including end, without the peers whose AS is on the list, where a
+// BGP message has at most `longest` octets.
+pub fn cut_with(
+    dump: &[u8],
+    start: u64,
+    end: u64,
+    mutes: &[u32],
+    out: &mut [u8],
+    longest: u64,
+) -> Written
+    ensures { λ r. ⌜ (r ≡ cutAnswer longest start end (now (mutes .entry)) (now (dump .entry)) (now (out .entry))) × (now (out .exit) ≡ leaves longest start end (now (mutes .entry)) (now (dump .entry)) (now (out .entry))) ⌝ }
 {
     if end < start {
-        return Cutted::Refused(14, 0);
+        return Written::Refused(14, 0);
     }
-    let checked = walk(dump);
+    let checked = walk_with(dump, longest);
     let fault = checked.fault;
     let place = checked.place;
     if 0 < fault {
-        return Cutted::Refused(fault, place);
+        return Written::Refused(fault, place);
     }
-    left_of(dump, Window { start, end }, mutes, out)
+    left_of(dump, Window { start, end }, mutes, out, longest)
+}
+
+pub fn cut(dump: &[u8], start: u64, end: u64, mutes: &[u32], out: &mut [u8]) -> Written
+    ensures { λ r. ⌜ (r ≡ cutAnswer longestMessage start end (now (mutes .entry)) (now (dump .entry)) (now (out .entry))) × (now (out .exit) ≡ leaves longestMessage start end (now (mutes .entry)) (now (dump .entry)) (now (out .entry))) ⌝ }
+{
+    cut_with(dump, start, end, mutes, out, LONGEST_MESSAGE)
 }

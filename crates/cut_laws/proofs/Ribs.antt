@@ -20,7 +20,9 @@ use Rattle.page.specs.Layout.{kind, layoutOf, layout}
 use Rattle.shown.specs.declared.Header.{Header}
 use Rattle.shown.specs.declared.Routes.{Routes}
 use Rattle.shown.specs.declared.Shown.{Shown}
-use Rattle.shown.specs.declared.Shown.the-variants.{Rib, RibGeneric}
+use Rattle.shown.specs.declared.Shown.the-variants.{Good}
+use Rattle.shown.specs.declared.Scope.{Scope}
+use Rattle.shown.specs.declared.Body.the-variants.{Rib, RibGeneric}
 use Rattle.shown.specs.declared.Table.{Table}
 use Rattle.shown.specs.declared.Table.the-variants.{Absent, Holds}
 use Rattle.reading.specs.Answer.{place, time, within}
@@ -117,22 +119,22 @@ module _ (most from to : ℕ) (ms news d : List ℕ) (at : ℕ) where
       }
 
   module _ (oc : Octets d) (more : at < length d) (t : Table) (st : St) (tells : Tells t st) (ranked : Ranked (λ n. mem n ms) news st) where
-    pub rib-left : (h : Header) (e : Routes) → readOne most t (drop at d) ≡ Rib h e → RibLeft most from to ms news d at st (Rib h e) h e
+    pub rib-left : (h : Header) (e : Routes) → readOne most t (drop at d) ≡ Good h (Rib e) → RibLeft most from to ms news d at st (Good h (Rib e)) h e
     unfolding layout layoutOf
     rib-left h e q =
         let r : Rec = recOf (layout most) st (drop at d) in
-        let w = shows most d oc at more t st tells (Rib h e) q refl in
+        let w = shows most d oc at more t st tells (Good h (Rib e)) q refl in
         let k = wrote (kind (r .type) (r .sub)) 3 (w .same .whose) (omega arith) in
-        entries-left st ranked (Rib h e) w h e (ribHead (k .0) (end 0)) (ap (layoutOf most) (k .1)) (w .same .timed) (subst Rested q (rested most t (drop at d))) (w .same .gives .tail)
+        entries-left st ranked (Good h (Rib e)) w h e (ribHead (k .0) (end 0)) (ap (layoutOf most) (k .1)) (w .same .timed) (subst Rested q (rested most t (drop at d))) (w .same .gives .tail)
 
-    pub generic-left : (h : Header) (family safi : ℕ) (e : Routes) → readOne most t (drop at d) ≡ RibGeneric h family safi e
-        → RibLeft most from to ms news d at st (RibGeneric h family safi e) h e
+    pub generic-left : (h : Header) (f : Scope) (e : Routes) → readOne most t (drop at d) ≡ Good h (RibGeneric f e)
+        → RibLeft most from to ms news d at st (Good h (RibGeneric f e)) h e
     unfolding layout layoutOf
-    generic-left h f i e q =
+    generic-left h f e q =
         let r : Rec = recOf (layout most) st (drop at d) in
-        let w = shows most d oc at more t st tells (RibGeneric h f i e) q refl in
+        let w = shows most d oc at more t st tells (Good h (RibGeneric f e)) q refl in
         let k = wrote (kind (r .type) (r .sub)) 4 (w .same .whose) (omega arith) in
-        entries-left st ranked (RibGeneric h f i e) w h e (genericHead (end 0)) (ap (layoutOf most) k) (w .same .timed) (subst Rested q (rested most t (drop at d))) (w .same .gives .tail)
+        entries-left st ranked (Good h (RibGeneric f e)) w h e (genericHead (end 0)) (ap (layoutOf most) k) (w .same .timed) (subst Rested q (rested most t (drop at d))) (w .same .gives .tail)
 
 -- a table of n peers that is told is in force
 pub tells-peers : (n : ℕ) (st : St) → Tells (Holds n) st → (st ≡ peersOf (numbers st)) × (n ≡ length (numbers st))

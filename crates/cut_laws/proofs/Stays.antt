@@ -19,7 +19,8 @@ use Rattle.shown.specs.declared.Header.{Header}
 use Rattle.shown.specs.declared.Peers.{Peers}
 use Rattle.shown.specs.declared.Routes.{Routes}
 use Rattle.shown.specs.declared.Shown.{Shown}
-use Rattle.shown.specs.declared.Shown.the-variants.{PeerTable}
+use Rattle.shown.specs.declared.Shown.the-variants.{Good}
+use Rattle.shown.specs.declared.Body.the-variants.{PeerTable}
 use Rattle.reading.specs.Answer.{place, time}
 use Rattle.cutting.specs.Keep.{kept}
 use Rattle.cutting.specs.Cut.{mem, cutting, numbers}
@@ -43,7 +44,7 @@ some-stay (suc n) k e = rw (ne-eqb (suc n) 0 (λ z. omega arith), lt-ltb 0 k (om
 module _ {most from to : ℕ} {ms d : List ℕ} {at : ℕ} {st : St} where
   pub table-whole : {h : Header} {p : Peers} → TableLeft most from to ms d at st h p
       → length (kept (λ n. mem n ms) (map (asOf peer) (peersIn d at p))) ≡ length (map (asOf peer) (peersIn d at p))
-      → writes (cutOne (layout most) (cutting from to ms) st (recOf (layout most) st (drop at d))) ≡ take (place (PeerTable h p)) (drop at d)
+      → writes (cutOne (layout most) (cutting from to ms) st (recOf (layout most) st (drop at d))) ≡ take (place (Good h (PeerTable p))) (drop at d)
   table-whole {h} {p} w e =
       w .left ∙ ap (itemsLeft d at (p .peers .at - 14)) (peers-stay (λ n. mem n ms) (asOf peer) (peersIn d at p) e) ∙ held-whole (w .held) ∙ sym (w .shown .octets)
 

@@ -2,9 +2,9 @@
 use mathlib.Core.Path.{_≡_, refl, sym, ap, _∙_, subst}
 use mathlib.Core.Bool.{true}
 use mathlib.Core.List.{List, [], _∷_, append-nil, map}
-use Prim.Native.Nat.{ℕ, suc, _+_, _-_, _≤_, _<_}
+use Prim.Native.Nat.{ℕ, _+_, _-_, _≤_, _<_}
 use native.Mathlib.Omega.{arith}
-use lib.ListN.{length, drop}
+use lib.ListN.{length, drop, length-map}
 use Rattle.form.specs.Octets.{Octets}
 use Rattle.form.specs.Fmt.{Fmt, end}
 use Rattle.form.specs.Body.{Body, listed, many, BodyFits}
@@ -15,7 +15,8 @@ use Rattle.page.specs.Peers.{tableHead, peer}
 use Rattle.page.specs.Layout.{kind, layoutOf, layout}
 use Rattle.shown.specs.declared.Header.{Header}
 use Rattle.shown.specs.declared.Peers.{Peers}
-use Rattle.shown.specs.declared.Shown.the-variants.{PeerTable}
+use Rattle.shown.specs.declared.Shown.the-variants.{Good}
+use Rattle.shown.specs.declared.Body.the-variants.{PeerTable}
 use Rattle.shown.specs.declared.Table.{Table}
 use Rattle.shown.specs.declared.Table.the-variants.{Holds}
 use Rattle.reading.specs.One.{readOne}
@@ -51,7 +52,7 @@ abbrev pub peersLeft : (ms d : List ℕ) (at : ℕ) → Peers → List (List (Li
 peersLeft ms d at p = kept (λ it. mem (asOf peer it) ms) (peersIn d at p)
 
 pub record TableLeft (most from to : ℕ) (ms d : List ℕ) (at : ℕ) (st : St) (h : Header) (p : Peers) : Type 0 where
-  pub shown : Shows most d at st (PeerTable h p)
+  pub shown : Shows most d at st (Good h (PeerTable p))
   pub held : Held d at (recOf (layout most) st (drop at d)) peer (p .peers .at) (p .count)
   pub left : writes (cutOne (layout most) (cutting from to ms) st (recOf (layout most) st (drop at d))) ≡ itemsLeft d at (p .peers .at - 14) (peersLeft ms d at p)
   pub next : next (layout most) (recOf (layout most) st (drop at d)) st ≡ told peer d true (at + p .peers .at) (p .count)
@@ -60,23 +61,19 @@ pub record TableLeft (most from to : ℕ) (ms d : List ℕ) (at : ℕ) (st : St)
   pub ranked : (news : List ℕ) → p .count ≤ length news
       → Ranked (λ n. mem n ms) (over news 0 (newFrom (λ n. mem n ms) (map (asOf peer) (peersIn d at p)) 0)) (told peer d true (at + p .peers .at) (p .count))
 
-length-map : {A B : Type 0} (f : A → B) (xs : List A) → length (map f xs) ≡ length xs
-length-map f [] = refl
-length-map f (x ∷ xs) = ap suc (length-map f xs)
-
 module _ (most from to : ℕ) (ms d : List ℕ) (oc : Octets d) (at : ℕ) (more : at < length d) (t : Table) (st : St) (tells : Tells t st) where
-  pub table-left : (h : Header) (p : Peers) → readOne most t (drop at d) ≡ PeerTable h p → TableLeft most from to ms d at st h p
+  pub table-left : (h : Header) (p : Peers) → readOne most t (drop at d) ≡ Good h (PeerTable p) → TableLeft most from to ms d at st h p
   unfolding layout layoutOf plan told
   table-left h p e =
       let r : Rec = recOf (layout most) st (drop at d) in
-      let w = shows most d oc at more t st tells (PeerTable h p) e refl in
+      let w = shows most d oc at more t st tells (Good h (PeerTable p)) e refl in
       let k = wrote (kind (r .type) (r .sub)) 2 (w .same .whose) (omega arith) in
       let l : layout most (r .type) (r .sub) ≡ table (tableHead (end 0)) peer = ap (layoutOf most) k in
       let reach : p .peers .at + p .peers .size ≡ size r = subst Rested e (rested most t (drop at d)) ∙ w .ends in
       let fits : BodyFits (many (tableHead (end 0)) peer) (r .body) = subst (λ (x : Layout). BodyFits (plan st x) (r .body)) l (w .read .valid .fits) in
       let i = held d at r (w .read .rest) (w .read .lie) (tableHead (end 0)) peer (p .peers) (p .count) reach fits (w .same .gives .tail) in
       let z = left-table (layout most) (cutting from to ms) st r (tableHead (end 0)) peer (i .fields) (peersIn d at p) l (i .body) in
-      let m : length (map (asOf peer) (peersIn d at p)) ≡ p .count = length-map (asOf peer) (peersIn d at p) ∙ i .many in
+      let m : length (map (asOf peer) (peersIn d at p)) ≡ p .count = length-map (peersIn d at p) (asOf peer) ∙ i .many in
       record {
         shown = w;
         held = i;

@@ -25,7 +25,10 @@ use Rattle.shown.specs.declared.Header.{Header}
 use Rattle.shown.specs.declared.Session.{Session}
 use Rattle.shown.specs.declared.Route.{Route}
 use Rattle.shown.specs.declared.Shown.{Shown}
-use Rattle.shown.specs.declared.Shown.the-variants.{Unread, TableDump, Change, Message}
+use Rattle.shown.specs.declared.Shown.the-variants.{Good}
+use Rattle.shown.specs.declared.States.{States}
+use Rattle.shown.specs.declared.Bgp as bgp
+use Rattle.shown.specs.declared.Body.the-variants.{Unread, TableDump, Change, Message}
 use Rattle.shown.specs.declared.Table.{Table}
 use Rattle.reading.specs.Answer.{place, time}
 use Rattle.reading.specs.One.{readOne}
@@ -93,24 +96,24 @@ module _ (most from to : ℕ) (ms d : List ℕ) (oc : Octets d) (at : ℕ) (more
       let e : writes (cutOne (layout most) c st r) ≡ cond b (take (place x) (drop at d)) [] = rw (h .octets) (l .0) in
       record { shown = h; left = e; next = l .1 }
 
-  pub unread-left : (h : Header) (p : Part) → readOne most t (drop at d) ≡ Unread h p → Whole most from to ms d at st (Unread h p) (leb from (time h) && ltb (time h) to)
+  pub unread-left : (h : Header) (p : Part) → readOne most t (drop at d) ≡ Good h (Unread p) → Whole most from to ms d at st (Good h (Unread p)) (leb from (time h) && ltb (time h) to)
   unfolding layout layoutOf
   unread-left h p e =
-      let w = shows most d oc at more t st tells (Unread h p) e refl in
+      let w = shows most d oc at more t st tells (Good h (Unread p)) e refl in
       let k = wrote-unread (kind (r .type) (r .sub)) (microOf (clock h)) (w .same .whose) in
       let l : layout most (r .type) (r .sub) ≡ unread _ = ap (layoutOf most) (k .1) in
-      whole (Unread h p) w _ (rw (w .same .timed) (left-unread (layout most) c st r _ l))
+      whole (Good h (Unread p)) w _ (rw (w .same .timed) (left-unread (layout most) c st r _ l))
 
-  pub table-dump-left : (h : Header) (f : Route) → readOne most t (drop at d) ≡ TableDump h f
-      → Whole most from to ms d at st (TableDump h f) ((leb from (time h) && ltb (time h) to) && not (mem (f .peer) ms))
+  pub table-dump-left : (h : Header) (f : Route) → readOne most t (drop at d) ≡ Good h (TableDump f)
+      → Whole most from to ms d at st (Good h (TableDump f)) ((leb from (time h) && ltb (time h) to) && not (mem (f .peer) ms))
   unfolding layout layoutOf
   table-dump-left h f e =
-      let w = shows most d oc at more t st tells (TableDump h f) e refl in
+      let w = shows most d oc at more t st tells (Good h (TableDump f)) e refl in
       let k = wrote (kind (r .type) (r .sub)) 1 (w .same .whose) (omega arith) in
       let l : layout most (r .type) (r .sub) ≡ fields (tableDump (k .0)) = ap (layoutOf most) (k .1) in
       let g : find peerAs (tableDump (k .0)) (frontOf (r .body)) ≡ some (toBe 2 (f .peer)) = rw (← (w .same .gives .front)) (find-route (k .0) _ _ _ _ _ (f .peer) _ _ _ _) in
       let n : be (toBe 2 (f .peer)) ≡ f .peer = be-toBe 2 (f .peer) (w .same .gives .fit .1 .1 .1 .1 .1 .1 .1 .0) in
-      whole (TableDump h f) w _ (rw (w .same .timed, ← n) (left-fields (layout most) c st r _ _ l g))
+      whole (Good h (TableDump f)) w _ (rw (w .same .timed, ← n) (left-fields (layout most) c st r _ _ l g))
 
   -- types 16 and 17: the layout f stands behind the session
   session-left : (x : Shown) → Shows most d at st x → (h : Header) → h .ty ≡ r .type → time h ≡ timeOf (layout most) r → (micro w : ℕ) (f : Fmt) → Bgp (r .type) micro
@@ -123,20 +126,20 @@ module _ (most from to : ℕ) (ms d : List ℕ) (oc : Octets d) (at : ℕ) (more
       let n : be (toBe v p) ≡ p = be-toBe v p (q .1) in
       whole x s _ (rw (z, ← n) (left-fields (layout most) c st r _ _ l g))
 
-  pub change-left : (h : Header) (e : Session) (o n : ℕ) → readOne most t (drop at d) ≡ Change h e o n
-      → Whole most from to ms d at st (Change h e o n) ((leb from (time h) && ltb (time h) to) && not (mem (e .peer) ms))
+  pub change-left : (h : Header) (e : Session) (v : States) → readOne most t (drop at d) ≡ Good h (Change e v)
+      → Whole most from to ms d at st (Good h (Change e v)) ((leb from (time h) && ltb (time h) to) && not (mem (e .peer) ms))
   unfolding layout layoutOf
-  change-left h e o n q =
-      let w = shows most d oc at more t st tells (Change h e o n) q refl in
+  change-left h e v q =
+      let w = shows most d oc at more t st tells (Good h (Change e v)) q refl in
       let k = wrote (kind (r .type) (r .sub)) 5 (w .same .whose) (omega arith) in
       let b : Bgp (r .type) (k .0) = rw (k .2) at (kind-says (r .type) (r .sub)) in
-      session-left (Change h e o n) w h (ap (λ (z : Header). z .ty) (w .same .headed)) (w .same .timed) (k .0) (k .1) _ b (ap (layoutOf most) (k .2)) _ (e .peer) _ (w .same .gives .fit) (w .same .gives .front)
+      session-left (Good h (Change e v)) w h (ap (λ (z : Header). z .ty) (w .same .headed)) (w .same .timed) (k .0) (k .1) _ b (ap (layoutOf most) (k .2)) _ (e .peer) _ (w .same .gives .fit) (w .same .gives .front)
 
-  pub message-left : (h : Header) (e : Session) (p : Part) (n : ℕ) → readOne most t (drop at d) ≡ Message h e p n
-      → Whole most from to ms d at st (Message h e p n) ((leb from (time h) && ltb (time h) to) && not (mem (e .peer) ms))
+  pub message-left : (h : Header) (e : Session) (v : bgp.Bgp) → readOne most t (drop at d) ≡ Good h (Message e v)
+      → Whole most from to ms d at st (Good h (Message e v)) ((leb from (time h) && ltb (time h) to) && not (mem (e .peer) ms))
   unfolding layout layoutOf
-  message-left h e p n q =
-      let w = shows most d oc at more t st tells (Message h e p n) q refl in
+  message-left h e v q =
+      let w = shows most d oc at more t st tells (Good h (Message e v)) q refl in
       let k = wrote (kind (r .type) (r .sub)) 6 (w .same .whose) (omega arith) in
       let b : Bgp (r .type) (k .0) = rw (k .2) at (kind-says (r .type) (r .sub)) in
-      session-left (Message h e p n) w h (ap (λ (z : Header). z .ty) (w .same .headed)) (w .same .timed) (k .0) (k .1) _ b (ap (layoutOf most) (k .2)) _ (e .peer) _ (w .same .gives .fit) (w .same .gives .front)
+      session-left (Good h (Message e v)) w h (ap (λ (z : Header). z .ty) (w .same .headed)) (w .same .timed) (k .0) (k .1) _ b (ap (layoutOf most) (k .2)) _ (e .peer) _ (w .same .gives .fit) (w .same .gives .front)

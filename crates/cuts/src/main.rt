@@ -3,9 +3,9 @@
 // the room is as it was.
 ghost use Prim.Native.Nat.{_+_, _*_, _≤_};
 ghost use lib.ListN.{length};
-use cutting::Cutted;
 use libc::STDOUT_FILENO;
 use num::number;
+use room_spec::Written;
 
 fn key(name: &[u8], value: u64) {
     io::write_all(STDOUT_FILENO, name);
@@ -65,16 +65,16 @@ fn list(s: &[u8], count: usize, mutes: &mut [u32])
 }
 
 // The answer, the octets written and the rest.
-fn report(r: Cutted, out: &[u8]) {
+fn report(r: Written, out: &[u8]) {
     match r {
-        Cutted::Octets(n) => {
+        Written::Octets(n) => {
             answer(0, 0, n);
             if n <= out.len() {
                 octets(out, n);
             }
             rest(out, n);
         }
-        Cutted::Refused(n, p) => {
+        Written::Refused(n, p) => {
             answer(n, p, 0);
             rest(out, 0);
         }

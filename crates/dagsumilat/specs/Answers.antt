@@ -7,8 +7,8 @@ use Rattle.shown.specs.declared.Peer.the-variants as peers
 use Rattle.shown.specs.declared.Entry.{Entry}
 use Rattle.shown.specs.declared.Entry.the-variants as entries
 use Rattle.walking.specs.declared.Walked.{Walked}
-use Rattle.cutting.specs.declared.Cutted.{Cutted}
-use Rattle.cutting.specs.declared.Cutted.the-variants as cuts
+use Rattle.room_spec.specs.declared.Written.{Written}
+use Rattle.room_spec.specs.declared.Written.the-variants as room
 use Rattle.dagsumilat.specs.declared.Told.{Told}
 
 -- words laid over an array, from the i-th on
@@ -24,9 +24,9 @@ abbrev pub checked : (array : List ℕ) → Walked → List ℕ
 checked a w = words a (w .fault ∷ w .place ∷ w .records ∷ [])
 
 -- fault, place, octets written
-abbrev pub cutted : (array : List ℕ) → Cutted → List ℕ
-cutted a (cuts.Octets n) = words a (0 ∷ 0 ∷ n ∷ [])
-cutted a (cuts.Refused n p) = words a (n ∷ p ∷ 0 ∷ [])
+abbrev pub cutted : (array : List ℕ) → Written → List ℕ
+cutted a (room.Octets n) = words a (0 ∷ 0 ∷ n ∷ [])
+cutted a (room.Refused n p) = words a (n ∷ p ∷ 0 ∷ [])
 
 -- fault, place, table, time, type, subtype, length, peer, items, count
 abbrev pub told : (array : List ℕ) → Told → List ℕ

@@ -23,6 +23,10 @@ none = 18446744073709551615
 abbrev pub tableOf : ℕ → Table
 tableOf n = choose (eqb n none) Absent (Holds n)
 
+abbrev pub countOfTable : Table → ℕ
+countOfTable Absent = none
+countOfTable (Holds n) = n
+
 -- no record: none is left at `at`, or there is a fault
 abbrev pub noRecord : (fault at table : ℕ) → Told
 noRecord n at t = record { fault = n; place = at; table = t; time = 0; ty = 0; subtype = 0; length = 0; peer = none; items = 0; count = 0 }
@@ -31,18 +35,18 @@ noRecord n at t = record { fault = n; place = at; table = t; time = 0; ty = 0; s
 abbrev pub good : Item → (table peer items count : ℕ) → Told
 good i t p o n = record { fault = 0; place = i .next; table = t; time = i .time; ty = i .ty; subtype = i .subtype; length = i .length; peer = p; items = o; count = n }
 
--- what is shown of it, by its sort: only a peer table changes the table in force
+-- what is shown of it, by its sort
 abbrev pub bySort : Item → (table : ℕ) → Shown → Sort → Told
 bySort i t x unread = good i t none 0 0
 bySort i t x ofPeer = good i t (peerOf x) 0 0
-bySort i t x table = good i (countOf x) none (itemsAt x) (countOf x)
+bySort i t x table = good i t none (itemsAt x) (countOf x)
 bySort i t x rib = good i t none (itemsAt x) (countOf x)
 
 abbrev pub toldOf : (table at : ℕ) → Step → Shown → Told
 toldOf t at step.End x = noRecord 0 at t
 toldOf t at (step.Fault n p) x = noRecord n p t
-toldOf t at (step.Record i u) x = bySort i t x (sortOf x)
+toldOf t at (step.Record i u) x = bySort i (countOfTable u) x (sortOf x)
 
--- the record that starts at `at`; `most` is the longest BGP message
-unfoldable pub toldAt : (most table : ℕ) (d : List ℕ) (at : ℕ) → Told
-toldAt most t d at = toldOf t at (stepAt most (tableOf t) d at) (readOne most (tableOf t) (drop at d))
+-- the record that starts at `at`; `longest` is the longest BGP message
+unfoldable pub toldAt : (longest table : ℕ) (d : List ℕ) (at : ℕ) → Told
+toldAt longest t d at = toldOf t at (stepAt longest (tableOf t) d at) (readOne longest (tableOf t) (drop at d))

@@ -2,18 +2,18 @@
 ghost use mathlib.Core.Path.{_≡_};
 ghost use Rattle.form.specs.Pass.{pass};
 ghost use Rattle.page.specs.Peers as page;
-ghost use Rattle.shown.specs.Told as show;
+ghost use Rattle.page.specs.Bgp4mp.{longestMessage};
+ghost use Rattle.shown.specs.Fields as show;
 ghost use Rattle.shown.specs.declared.Peer.the-variants as peers;
 ghost use Rattle.shown.specs.declared.Entry.the-variants as entries;
 ghost use Rattle.walking.specs.Walked.{walked};
 ghost use Rattle.cut_laws.specs.Answer.{cutAnswer, leaves};
 ghost use Rattle.dagsumilat.specs.Answers as words;
-ghost use Rattle.look.specs.Field.{typeOf, subtypeOf, itemsAt, countOf, Known, Is, Shows};
+ghost use Rattle.look.specs.Field.{typeOf, subtypeOf, itemsAt, countOf, Known, Is, Shows, Counted};
 ghost use Rattle.look.specs.Sort as sort;
-ghost use Rattle.dagsumilat.specs.Telling.{none, tableOf, noRecord, good, bySort, toldAt};
+ghost use Rattle.dagsumilat.specs.Telling.{none, tableOf, countOfTable, noRecord, good, bySort, toldAt};
 ghost use Rattle.dagsumilat.specs.Unjudged.{entryFields};
 use cut::cut;
-use cutting::Cutted;
 use flow::Num;
 use flow::Room;
 use flow::field;
@@ -26,12 +26,14 @@ use look::route_peer;
 use look::session_peer;
 use look::subtype_of;
 use look::type_of;
+use page::LONGEST_MESSAGE;
 use peers::peer_at;
+use room_spec::Written;
 use shown::Entry;
 use shown::Part;
 use shown::Peer;
 use shown::Table;
-use walk::step_at;
+use walk::step_with;
 use walk::walk;
 use walking::Item;
 use walking::Step;
@@ -54,7 +56,7 @@ pub struct Told {
 // The first fault's number and place, or 0 and the dump's length, and how many records stand before it.
 #[no_mangle]
 pub extern "C" fn dagsumilat_check(dump: &[u8], answer: &mut [u64; 3])
-    ensures { λ _. ⌜ now (answer .exit) ≡ words.checked (now (answer .entry)) (walked 4096 (now (dump .entry))) ⌝ }
+    ensures { λ _. ⌜ now (answer .exit) ≡ words.checked (now (answer .entry)) (walked longestMessage (now (dump .entry))) ⌝ }
 {
     let w = walk(dump);
     let fault = w.fault;
@@ -75,15 +77,15 @@ pub extern "C" fn dagsumilat_cut(
     out: &mut [u8],
     answer: &mut [u64; 3],
 )
-    ensures { λ _. ⌜ (now (answer .exit) ≡ words.cutted (now (answer .entry)) (cutAnswer 4096 from to (now (mutes .entry)) (now (dump .entry)) (now (out .entry)))) × (now (out .exit) ≡ leaves 4096 from to (now (mutes .entry)) (now (dump .entry)) (now (out .entry))) ⌝ }
+    ensures { λ _. ⌜ (now (answer .exit) ≡ words.cutted (now (answer .entry)) (cutAnswer longestMessage from to (now (mutes .entry)) (now (dump .entry)) (now (out .entry)))) × (now (out .exit) ≡ leaves longestMessage from to (now (mutes .entry)) (now (dump .entry)) (now (out .entry))) ⌝ }
 {
     match cut(dump, from, to, mutes, out) {
-        Cutted::Octets(n) => {
+        Written::Octets(n) => {
             answer[0] = 0;
             answer[1] = 0;
             answer[2] = n as u64;
         }
-        Cutted::Refused(n, p) => {
+        Written::Refused(n, p) => {
             answer[0] = n as u64;
             answer[1] = p as u64;
             answer[2] = 0;
@@ -98,6 +100,15 @@ fn table_of(table: u64) -> Table
         return Table::Absent;
     }
     Table::Holds(table)
+}
+
+fn count_of_table(t: Table) -> u64
+    ensures { λ r. ⌜ r ≡ countOfTable t ⌝ }
+{
+    match t {
+        Table::Absent => 18446744073709551615,
+        Table::Holds(n) => n,
+    }
 }
 
 fn no_record(fault: u8, at: usize, table: u64) -> Told
@@ -139,39 +150,28 @@ fn good(i: Item, table: u64, peer: u64, items: usize, count: u64) -> Told
     }
 }
 
-// A good peer table at `at`: it is the table in force behind it.
-fn table_told(d: &[u8], at: usize, i: Item) -> Told
-    requires { ⌜ Is (now d) at (λ x. sort.sortOf x ≡ sort.table) ⌝ }
-    ensures { λ r. ⌜ Shows (now (d .entry)) at (λ x. r ≡ good i (countOf x) none (itemsAt x) (countOf x)) ⌝ }
+// Where a record of type 13 counts its items.
+fn counted_at(d: &[u8], at: usize, subtype: u64) -> usize
+    requires { ⌜ Is (now d) at (λ x. (typeOf x ≡ 13) × (subtypeOf x ≡ subtype)) ⌝ }
+    ensures { λ r. ⌜ Shows (now (d .entry)) at (Counted (now (d .entry)) at r) ⌝ }
 {
-    let none = 18446744073709551615;
-    let counted = peer_count_at(d, at);
-    let many = count(d, counted);
-    good(i, many, none, counted + 2 - at, many)
-}
-
-// A good RIB record at `at`.
-fn rib_told(d: &[u8], at: usize, i: Item, subtype: u64, table: u64) -> Told
-    requires { ⌜ Is (now d) at (λ x. (sort.sortOf x ≡ sort.rib) × (subtypeOf x ≡ subtype)) ⌝ }
-    ensures { λ r. ⌜ Shows (now (d .entry)) at (λ x. r ≡ good i table none (itemsAt x) (countOf x)) ⌝ }
-{
-    let none = 18446744073709551615;
-    let counted = entry_count_at(d, at, subtype);
-    good(i, table, none, counted + 2 - at, count(d, counted))
+    if subtype == 1 {
+        return peer_count_at(d, at);
+    }
+    entry_count_at(d, at, subtype)
 }
 
 // A good record of type 13.
 fn items_told(d: &[u8], at: usize, i: Item, subtype: u64, table: u64) -> Told
     requires { ⌜ Is (now d) at (λ x. (typeOf x ≡ 13) × (subtypeOf x ≡ subtype)) ⌝ }
-    ensures { λ r. ⌜ Shows (now (d .entry)) at (λ x. r ≡ bySort i table x (sort.sortOf x)) ⌝ }
+    ensures { λ r. ⌜ Shows (now (d .entry)) at (λ x. r ≡ good i table none (itemsAt x) (countOf x)) ⌝ }
 {
-    if subtype == 1 {
-        return table_told(d, at, i);
-    }
-    rib_told(d, at, i, subtype, table)
+    let none = 18446744073709551615;
+    let counted = counted_at(d, at, subtype);
+    good(i, table, none, counted + 2 - at, count(d, counted))
 }
 
-// The good record at `at`, where `table` is in force.
+// The good record at `at`, behind which `table` is in force.
 fn good_told(d: &[u8], at: usize, i: Item, table: u64) -> Told
     requires { ⌜ Known (now d) at ⌝ }
     ensures { λ r. ⌜ Shows (now (d .entry)) at (λ x. r ≡ bySort i table x (sort.sortOf x)) ⌝ }
@@ -187,22 +187,22 @@ fn good_told(d: &[u8], at: usize, i: Item, table: u64) -> Told
     }
 }
 
-fn told_at(d: &[u8], at: usize, table: u64) -> Told
-    ensures { λ r. ⌜ r ≡ toldAt 4096 table (now (d .entry)) at ⌝ }
+fn told_at(d: &[u8], at: usize, table: u64, longest: u64) -> Told
+    ensures { λ r. ⌜ r ≡ toldAt longest table (now (d .entry)) at ⌝ }
 {
-    match step_at(d, at, table_of(table)) {
+    match step_with(d, at, table_of(table), longest) {
         Step::End => no_record(0, at, table),
         Step::Fault(n, p) => no_record(n, p, table),
-        Step::Record(i, _) => good_told(d, at, i, table),
+        Step::Record(i, behind) => good_told(d, at, i, count_of_table(behind)),
     }
 }
 
 // The record that starts at `at`, where `table` is the number of peers of the table in force.
 #[no_mangle]
 pub extern "C" fn dagsumilat_record(dump: &[u8], at: usize, table: u64, answer: &mut [u64; 10])
-    ensures { λ _. ⌜ now (answer .exit) ≡ words.told (now (answer .entry)) (toldAt 4096 table (now (dump .entry)) at) ⌝ }
+    ensures { λ _. ⌜ now (answer .exit) ≡ words.told (now (answer .entry)) (toldAt longestMessage table (now (dump .entry)) at) ⌝ }
 {
-    let t = told_at(dump, at, table);
+    let t = told_at(dump, at, table, LONGEST_MESSAGE);
     let fault = t.fault;
     let place = t.place;
     let ty = t.ty;

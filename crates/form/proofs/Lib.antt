@@ -11,6 +11,6 @@ pub mod Many
 pub mod Shape
 pub mod Put
 pub mod Given
-pub mod Alike
+pub mod Moved
 pub mod Refuses
 pub mod Found

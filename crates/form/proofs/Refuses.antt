@@ -20,7 +20,7 @@ use Rattle.form.specs.Gives.{FitOne, Fit}
 use Rattle.form.specs.Aligned.{Full, Aligned, Counted, AlignedBody}
 use Rattle.form.proofs.Octets.{length-toBe, be-toBe}
 use Rattle.form.proofs.Fmt.{refuse-case, read-field, complete}
-use Rattle.form.proofs.Alike.{alike-fault, alike-items}
+use Rattle.form.proofs.Moved.{moved-fault, moved-items}
 use Rattle.form.proofs.Record.{read-message}
 use Rattle.form.proofs.Put.{zero-large, zero-misfit}
 
@@ -116,7 +116,7 @@ items-read g at cs (items n raw) h =
     let l : length (toBe 2 n) ≡ 2 = length-toBe 2 n in
     let g2 : 2 ≤ length (toBe 2 n ++ raw) = simp length-append (omega arith) in
     rw (zero-large 2 n h, le-ltb _ _ g2, take-at (toBe 2 n) raw 2 l, drop-at (toBe 2 n) raw 2 l, be-toBe 2 n h)
-    (alike-fault (readN g n 0 raw) (readN g n (at + 2) raw) (alike-items g n 0 (at + 2) raw) ∙ fault-ended (readN g n (at + 2) raw) (λ its. at + 2 + length (joins its)) (listed cs))
+    (sym (moved-fault (at + 2) _ (readN g n (at + 2) raw) (readN g n 0 raw) (moved-items (at + 2) g n 0 (at + 2) raw (omega arith))) ∙ fault-ended (readN g n (at + 2) raw) (λ its. at + 2 + length (joins its)) (listed cs))
 
 -- the writer's number is the reader's
 pub refuses-as-reader : (p : Plan) (at : ℕ) (vs : List Value) (t : Tail) → Fit vs → AlignedBody p vs t → bodyRefusal p vs t ≡ faultOf (readBody p at (join (lay vs) ++ tailed t))

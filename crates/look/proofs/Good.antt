@@ -25,12 +25,12 @@ use Rattle.shown.specs.declared.Table as told
 use Rattle.shown.specs.declared.Table.the-variants.{Absent, Holds}
 use Rattle.shown.specs.declared.Shown.{Shown}
 use Rattle.shown.specs.declared.Shown.the-variants.{Refused}
-use Rattle.shown.specs.Told as show
-use Rattle.reading.specs.Answer.{fault, place}
+use Rattle.shown.specs.Fields as show
+use Rattle.reading.specs.Answer.{fault, place, headerOf}
 use Rattle.reading.specs.One.{header, microAt, behind, tabled, shownAs}
 use Rattle.page.proofs.Choice.{Says}
 use Rattle.look.specs.Sort as sort
-use Rattle.look.specs.Field.{headOf, peerOf, itemsAt, countOf}
+use Rattle.look.specs.Field.{peerOf, itemsAt, countOf}
 use Rattle.look.proofs.Fields.{by-choose, field-then, test-then, every}
 
 -- x, if it is good, has P
@@ -117,7 +117,7 @@ module _ (m : List ℕ) where
 
   -- x starts with m's header, and ends where that says
   pub record Heads (micro : ℕ) (x : Shown) : Type 0 where
-    pub head : headOf x ≡ header m (microIn micro)
+    pub head : headerOf x ≡ header m (microIn micro)
     pub ends : place x ≡ 12 + numAt m 8 4
     pub long : 12 + micro ≤ length m
 
@@ -151,7 +151,7 @@ module _ (m : List ℕ) where
   Facts (chosen.Message micro w) x = Heads micro x × (sort.sortOf x ≡ sort.ofPeer) × Spoken micro w x
 
   module _ (most : ℕ) (t : told.Table) (long : 12 ≤ length m) where
-    headed : (x : Shown) → headOf x ≡ header m 0 → place x ≡ 12 + numAt m 8 4 → Heads 0 x
+    headed : (x : Shown) → headerOf x ≡ header m 0 → place x ≡ 12 + numAt m 8 4 → Heads 0 x
     unfolding microIn choose
     headed x e f = record { head = e; ends = f; long = omega arith }
 

@@ -4,7 +4,6 @@ use mathlib.Core.Bool.{Bool, true, false, _||_, false≢true}
 use mathlib.Core.Logic.{_⊎_, inl, inr, ⊎-elim}
 use mathlib.Core.List.{List}
 use Prim.Native.Nat.{ℕ}
-use native.Mathlib.Omega.{arith}
 use lib.Dec.{eqb}
 use borrow.Author.Tests.{eqb-true, eq-eqb, ne-eqb}
 use Rattle.form.specs.Words.{choose, within}
@@ -100,13 +99,6 @@ late-unread y (inr e) = rw e
 
 -- ---- and back
 
--- sorts are told apart by a number
-abbrev tag : Sort → ℕ
-tag unread = 0
-tag ofPeer = 1
-tag table = 2
-tag rib = 3
-
 -- a peer table is subtype 1 of type 13
 pub table-first : (y u : ℕ) → y ≡ 13 → eqb u 1 ≡ isTable (sortBy y u)
 unfolding sortBy choose
@@ -130,9 +122,9 @@ is-table y u = go (eqb y 12 || eqb y 16 || eqb y 17) (eqb y 13) refl (eqb u 1) r
   where
     go : (a b : Bool) → eqb y 13 ≡ b → (c : Bool) → eqb u 1 ≡ c → choose a ofPeer (choose b (choose c table rib) unread) ≡ table → (y ≡ 13) × (u ≡ 1)
     go false true e true f z = (eqb-true y 13 e, eqb-true u 1 f)
-    go false true e false f z = absurd (omega (arith, ap tag z))
-    go false false e c f z = absurd (omega (arith, ap tag z))
-    go true b e c f z = absurd (omega (arith, ap tag z))
+    go false true e false f z = absurd (false≢true cc)
+    go false false e c f z = absurd (false≢true cc)
+    go true b e c f z = absurd (false≢true cc)
 
 -- a RIB record is of type 13 and another subtype
 pub is-rib : (y u : ℕ) → sortBy y u ≡ rib → (y ≡ 13) × (u ≡ 1 → ⊥)
@@ -141,9 +133,9 @@ is-rib y u = go (eqb y 12 || eqb y 16 || eqb y 17) (eqb y 13) refl (eqb u 1) ref
   where
     go : (a b : Bool) → eqb y 13 ≡ b → (c : Bool) → eqb u 1 ≡ c → choose a ofPeer (choose b (choose c table rib) unread) ≡ rib → (y ≡ 13) × (u ≡ 1 → ⊥)
     go false true e false f z = (eqb-true y 13 e, λ h. false≢true (sym f ∙ eq-eqb u 1 h))
-    go false true e true f z = absurd (omega (arith, ap tag z))
-    go false false e c f z = absurd (omega (arith, ap tag z))
-    go true b e c f z = absurd (omega (arith, ap tag z))
+    go false true e true f z = absurd (false≢true cc)
+    go false false e c f z = absurd (false≢true cc)
+    go true b e c f z = absurd (false≢true cc)
 
 pub table-sort : (s : Sort) → isTable s ≡ true → s ≡ table
 table-sort unread e = absurd (false≢true e)

@@ -20,7 +20,7 @@ use Rattle.reading.specs.Answer.{fault}
 use Rattle.reading.specs.One.{shownAs, wholeRecord, readOne}
 use Rattle.page.proofs.Choice.{Says, kind-says, by-test, either}
 use Rattle.look.specs.Sort.{sortOf, sortBy}
-use Rattle.look.specs.Field.{typeOf, subtypeOf, timeOf, peerOf, itemsAt, countOf, widthOf, shown, Good, Is, Shows, Ends, Counted}
+use Rattle.look.specs.Field.{typeOf, subtypeOf, timeOf, peerOf, itemsAt, countOf, widthOf, Told, shown, Good, Is, Shows, Ends, Counted}
 use Rattle.look.proofs.Good.{Heads, Counts, Spoken, Routed, Facts, facts, microIn, behindPrefix}
 use Rattle.look.proofs.Sort.{sort-says}
 
@@ -132,7 +132,7 @@ wide-enough u = go (eqb u 4 || eqb u 5 || eqb u 7)
 
 -- ---- the record at `at` of d
 
-module _ (t : Table) (d : List ℕ) (at : ℕ) (good : Good t d at) where
+module _ (t : Told) (d : List ℕ) (at : ℕ) (good : Good t d at) where
   abbrev s : List ℕ
   s = drop at d
 
@@ -145,8 +145,8 @@ module _ (t : Table) (d : List ℕ) (at : ℕ) (good : Good t d at) where
   abbrev x : Shown
   x = shown t d at
 
-  begins : Starts 4096 t s
-  begins = starts 4096 t s (rw length-drop (omega (arith, good .0))) (good .1)
+  begins : Starts (t .longest) (t .table) s
+  begins = starts (t .longest) (t .table) s (rw length-drop (omega (arith, good .0))) (good .1)
 
   size : length m ≡ n
   size = length-take-le n s (begins .long)
@@ -171,7 +171,7 @@ module _ (t : Table) (d : List ℕ) (at : ℕ) (good : Good t d at) where
 
   all : Facts m (kind ty sub) x
   unfolding wholeRecord
-  all = let e : x ≡ shownAs 4096 t m (kind ty sub) = begins .shown in rw e (facts m 4096 t (omega (arith, size)) ty sub (kind ty sub) (kind-says ty sub) (rw e at (good .1)))
+  all = let e : x ≡ shownAs (t .longest) (t .table) m (kind ty sub) = begins .shown in rw e (facts m (t .longest) (t .table) (omega (arith, size)) ty sub (kind ty sub) (kind-says ty sub) (rw e at (good .1)))
 
   heads : Heads m (choose (finer ty) 4 0) x
   heads = heads-of m x ty sub (kind ty sub) (kind-says ty sub) all
@@ -300,7 +300,7 @@ module _ (t : Table) (d : List ℕ) (at : ℕ) (good : Good t d at) where
   sorted = rw (← type-shown, ← subtype-shown, ← type-here, ← sub-here) (sort-says m x ty sub all)
 
 -- its type and subtype are the same, whatever table it is good with
-module _ (d : List ℕ) (at : ℕ) (t u : Table) (g : Good t d at) (h : Good u d at) where
+module _ (d : List ℕ) (at : ℕ) (t u : Told) (g : Good t d at) (h : Good u d at) where
   pub same-type : typeOf (shown t d at) ≡ typeOf (shown u d at)
   same-type = sym (type-shown t d at g) ∙ type-shown u d at h
 

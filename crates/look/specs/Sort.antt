@@ -4,7 +4,9 @@ use Prim.Native.Nat.{ℕ}
 use lib.Dec.{eqb}
 use Rattle.form.specs.Words.{choose}
 use Rattle.shown.specs.declared.Shown.{Shown}
-use Rattle.shown.specs.declared.Shown.the-variants.{Nothing, Refused, Unread, TableDump, PeerTable, Rib, RibGeneric, Change, Message}
+use Rattle.shown.specs.declared.Body.{Body}
+use Rattle.shown.specs.declared.Body.the-variants.{Unread, TableDump, PeerTable, Rib, RibGeneric, Change, Message}
+use Rattle.reading.specs.Answer.{ofBody}
 
 pub data Sort : Type 0 where
   unread : Sort
@@ -12,17 +14,18 @@ pub data Sort : Type 0 where
   table : Sort
   rib : Sort
 
+abbrev pub sortIn : Body → Sort
+sortIn (Unread c) = unread
+sortIn (TableDump r) = ofPeer
+sortIn (PeerTable p) = table
+sortIn (Rib r) = rib
+sortIn (RibGeneric f r) = rib
+sortIn (Change s w) = ofPeer
+sortIn (Message s b) = ofPeer
+
 -- of what reading shows
 abbrev pub sortOf : Shown → Sort
-sortOf Nothing = unread
-sortOf (Refused n p) = unread
-sortOf (Unread h c) = unread
-sortOf (TableDump h r) = ofPeer
-sortOf (PeerTable h p) = table
-sortOf (Rib h r) = rib
-sortOf (RibGeneric h f s r) = rib
-sortOf (Change h s o n) = ofPeer
-sortOf (Message h s b k) = ofPeer
+sortOf x = ofBody unread sortIn x
 
 abbrev pub isTable : Sort → Bool
 isTable unread = false

@@ -26,9 +26,13 @@ stateChange = state oldState $ state newState $ end 0
 
 -- behind a BGP message's type octet: its length field n is judged now (10), and then must end where the record ends (5, 6). The field
 -- stands 3 octets back, and so all three faults are placed there.
-unfoldable pub messageRest : (most n : ℕ) → Fmt
-messageRest most n = must (within 19 n most) 10 3 $ area bgpRest (n - 19) 3 $ end (n - 16)
+unfoldable pub messageRest : (longest n : ℕ) → Fmt
+messageRest longest n = must (within 19 n longest) 10 3 $ area bgpRest (n - 19) 3 $ end (n - 16)
 
--- `most` is the longest BGP message
-unfoldable pub message : (most : ℕ) → Fmt
-message most = skip marker 16 $ num bgpLength 2 λ n. num bgpType 1 λ t. messageRest most n
+-- `longest` is the longest BGP message
+unfoldable pub message : (longest : ℕ) → Fmt
+message longest = skip marker 16 $ num bgpLength 2 λ n. num bgpType 1 λ t. messageRest longest n
+
+-- RFC 4271's limit, which document 01 takes
+abbrev pub longestMessage : ℕ
+longestMessage = 4096

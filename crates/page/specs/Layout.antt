@@ -54,16 +54,16 @@ unfoldable pub stamped : (micro : ℕ) → Fmt → Fmt
 stamped zero f = f
 stamped (suc n) f = num microseconds (suc n) λ u. f
 
--- `most` is the longest BGP message
-unfoldable pub layoutOf : (most : ℕ) → Kind → Layout
-layoutOf most (Refused n place) = refuse n (12 - place)
-layoutOf most (Unread micro) = unread (stamped micro (end 0))
-layoutOf most (TableDump size) = fields (tableDump size)
-layoutOf most PeerTable = table (tableHead (end 0)) peer
-layoutOf most (Rib bits) = entries (ribHead bits (end 0)) entryRest
-layoutOf most RibGeneric = entries (genericHead (end 0)) entryRest
-layoutOf most (Change micro w) = fields (stamped micro (session w stateChange))
-layoutOf most (Message micro w) = fields (stamped micro (session w (message most)))
+-- `longest` is the longest BGP message
+unfoldable pub layoutOf : (longest : ℕ) → Kind → Layout
+layoutOf longest (Refused n place) = refuse n (12 - place)
+layoutOf longest (Unread micro) = unread (stamped micro (end 0))
+layoutOf longest (TableDump size) = fields (tableDump size)
+layoutOf longest PeerTable = table (tableHead (end 0)) peer
+layoutOf longest (Rib bits) = entries (ribHead bits (end 0)) entryRest
+layoutOf longest RibGeneric = entries (genericHead (end 0)) entryRest
+layoutOf longest (Change micro w) = fields (stamped micro (session w stateChange))
+layoutOf longest (Message micro w) = fields (stamped micro (session w (message longest)))
 
-unfoldable pub layout : (most type sub : ℕ) → Layout
-layout most type sub = layoutOf most (kind type sub)
+unfoldable pub layout : (longest type sub : ℕ) → Layout
+layout longest type sub = layoutOf longest (kind type sub)

@@ -14,3 +14,6 @@ pub enum Kind {
     Change(usize, usize),
     Message(usize, usize),
 }
+
+// The longest BGP message, in octets.
+pub const LONGEST_MESSAGE: u64 = 4096;

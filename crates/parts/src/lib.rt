@@ -2,11 +2,13 @@
 ghost use mathlib.Core.Path.{_≡_};
 ghost use Rattle.reading.specs.Answer as answer;
 use copy::part;
+use shown::Body;
 use shown::Entry;
 use shown::Header;
 use shown::Part;
 use shown::Peer;
 use shown::Shown;
+use shown::Table;
 
 // The fault's number, 0 for none.
 pub fn fault(r: Shown) -> u8
@@ -15,13 +17,7 @@ pub fn fault(r: Shown) -> u8
     match r {
         Shown::Nothing => 0,
         Shown::Refused(n, _) => n,
-        Shown::Unread(_, _) => 0,
-        Shown::TableDump(_, _) => 0,
-        Shown::PeerTable(_, _) => 0,
-        Shown::Rib(_, _) => 0,
-        Shown::RibGeneric(_, _, _, _) => 0,
-        Shown::Change(_, _, _, _) => 0,
-        Shown::Message(_, _, _, _) => 0,
+        Shown::Good(_, _) => 0,
     }
 }
 
@@ -39,13 +35,7 @@ pub fn place(r: Shown) -> usize
     match r {
         Shown::Nothing => 0,
         Shown::Refused(_, _) => 0,
-        Shown::Unread(h, _) => end(h),
-        Shown::TableDump(h, _) => end(h),
-        Shown::PeerTable(h, _) => end(h),
-        Shown::Rib(h, _) => end(h),
-        Shown::RibGeneric(h, _, _, _) => end(h),
-        Shown::Change(h, _, _, _) => end(h),
-        Shown::Message(h, _, _, _) => end(h),
+        Shown::Good(h, _) => end(h),
     }
 }
 
@@ -67,6 +57,20 @@ pub fn within(m: &[u8], p: Part) -> &[u8]
     part(m, at, size)
 }
 
+fn carried_in(m: &[u8], b: Body) -> &[u8]
+    ensures { λ s. ⌜ now s ≡ answer.carriedIn (now (m .entry)) b ⌝ }
+{
+    match b {
+        Body::Unread(p) => within(m, p),
+        Body::TableDump(t) => within(m, t.attributes),
+        Body::PeerTable(t) => within(m, t.name),
+        Body::Rib(_) => part(m, 0, 0),
+        Body::RibGeneric(_, _) => part(m, 0, 0),
+        Body::Change(_, _) => part(m, 0, 0),
+        Body::Message(_, b) => within(m, b.message),
+    }
+}
+
 // The part that a record carries: unread contents, attributes, view name or BGP message.
 pub fn carried(m: &[u8], r: Shown) -> &[u8]
     ensures { λ s. ⌜ now s ≡ answer.carried (now (m .entry)) r ⌝ }
@@ -74,13 +78,22 @@ pub fn carried(m: &[u8], r: Shown) -> &[u8]
     match r {
         Shown::Nothing => part(m, 0, 0),
         Shown::Refused(_, _) => part(m, 0, 0),
-        Shown::Unread(_, p) => within(m, p),
-        Shown::TableDump(_, t) => within(m, t.attributes),
-        Shown::PeerTable(_, t) => within(m, t.name),
-        Shown::Rib(_, _) => part(m, 0, 0),
-        Shown::RibGeneric(_, _, _, _) => part(m, 0, 0),
-        Shown::Change(_, _, _, _) => part(m, 0, 0),
-        Shown::Message(_, _, p, _) => within(m, p),
+        Shown::Good(_, b) => carried_in(m, b),
+    }
+}
+
+// The table in force behind a record, where t was in force before it.
+pub fn table_behind(t: Table, b: Body) -> Table
+    ensures { λ r. ⌜ r ≡ answer.tableBehind t b ⌝ }
+{
+    match b {
+        Body::Unread(_) => t,
+        Body::TableDump(_) => t,
+        Body::PeerTable(p) => Table::Holds(p.count),
+        Body::Rib(_) => t,
+        Body::RibGeneric(_, _) => t,
+        Body::Change(_, _) => t,
+        Body::Message(_, _) => t,
     }
 }
 

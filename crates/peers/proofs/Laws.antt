@@ -3,7 +3,7 @@ use mathlib.Core.Path.{_≡_, refl}
 use mathlib.Core.List.{List}
 use Prim.Native.Nat.{ℕ}
 use Rattle.form.specs.Pass.{Seen}
-use Rattle.shown.specs.Told.{peer}
+use Rattle.shown.specs.Fields.{peer}
 use Rattle.shown.specs.declared.Peer.{Peer}
 use Rattle.shown.specs.declared.Peer.the-variants.{Of, Bad}
 use Rattle.shown.specs.declared.Shown.{Shown}

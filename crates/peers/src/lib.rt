@@ -3,17 +3,18 @@ ghost use mathlib.Core.Path.{_≡_};
 ghost use Prim.Native.Nat.{_+_, _≤_};
 ghost use Rattle.form.specs.Pass.{pass, whole, times};
 ghost use Rattle.page.specs.Peers.{peerRest, peerSized, peer, peerTable};
-ghost use Rattle.shown.specs.Told.{partOf, restFrom};
-ghost use Rattle.shown.specs.Told as show;
+ghost use Rattle.shown.specs.Fields.{partOf, restFrom};
+ghost use Rattle.shown.specs.Fields as show;
 ghost use Rattle.form.specs.Pass.{numberOf};
 ghost use Rattle.page.specs.Names.{peerAs, peerAddress};
-ghost use Rattle.shown.specs.declared.Shown.the-variants.{PeerTable, Refused};
+ghost use Rattle.shown.specs.declared.Shown.the-variants.{Refused};
 ghost use Rattle.shown.specs.declared.Peer.the-variants.{Of, Bad};
 use flow::Num;
 use flow::Room;
 use flow::field;
 use flow::left;
 use flow::skip;
+use shown::Body;
 use shown::Header;
 use shown::Part;
 use shown::Peer;
@@ -97,20 +98,17 @@ pub fn peer_table(m: &[u8], at: usize, h: Header) -> Shown
     let Num::Value(count, e) = field(m, d, 2) else {
         return Shown::Refused(5, d);
     };
-    let s = Shown::PeerTable(
-        h,
-        Peers {
-            collector,
-            name: Part {
-                at: b,
-                size: n as usize,
-            },
-            count,
-            peers: Part {
-                at: e,
-                size: left(m, e),
-            },
+    let table = Peers {
+        collector,
+        name: Part {
+            at: b,
+            size: n as usize,
         },
-    );
-    peers_at(m, e, count, s)
+        count,
+        peers: Part {
+            at: e,
+            size: left(m, e),
+        },
+    };
+    peers_at(m, e, count, Shown::Good(h, Body::PeerTable(table)))
 }

@@ -6,37 +6,44 @@ use Rattle.form.specs.Dump.{placed}
 use Rattle.shown.specs.declared.Part.{Part}
 use Rattle.shown.specs.declared.Header.{Header}
 use Rattle.shown.specs.declared.Shown.{Shown}
-use Rattle.shown.specs.declared.Shown.the-variants.{Nothing, Refused, Unread, TableDump, PeerTable, Rib, RibGeneric, Change, Message}
+use Rattle.shown.specs.declared.Shown.the-variants.{Nothing, Refused, Good}
+use Rattle.shown.specs.declared.Body.{Body}
+use Rattle.shown.specs.declared.Body.the-variants.{Unread, TableDump, PeerTable, Rib, RibGeneric, Change, Message}
+use Rattle.shown.specs.declared.Table.{Table}
+use Rattle.shown.specs.declared.Table.the-variants.{Holds}
 use Rattle.shown.specs.declared.Entry.{Entry}
 use Rattle.shown.specs.declared.Entry.the-variants.{At, Bad}
 use Rattle.shown.specs.declared.Peer.{Peer}
 use Rattle.shown.specs.declared.Peer.the-variants as one
 
+-- what f says of the body; `else` where no record is shown
+abbrev pub ofBody : {A : Type 0} → (else : A) → (Body → A) → Shown → A
+ofBody e f Nothing = e
+ofBody e f (Refused n p) = e
+ofBody e f (Good h b) = f b
+
 abbrev pub fault : Shown → ℕ
 fault Nothing = 0
 fault (Refused n p) = n
-fault (Unread h c) = 0
-fault (TableDump h r) = 0
-fault (PeerTable h p) = 0
-fault (Rib h r) = 0
-fault (RibGeneric h f s r) = 0
-fault (Change h s o n) = 0
-fault (Message h s b k) = 0
+fault (Good h b) = 0
+
+-- zeros where no record is shown
+abbrev pub noHeader : Header
+noHeader = record { timestamp = 0; ty = 0; subtype = 0; length = 0; microseconds = 0 }
+
+abbrev pub headerOf : Shown → Header
+headerOf Nothing = noHeader
+headerOf (Refused n p) = noHeader
+headerOf (Good h b) = h
 
 abbrev pub end : Header → ℕ
 end h = 12 + h .length
 
--- a fault is placed at the record, which starts at 0 here
+-- a fault's place, where the record starts at 0
 abbrev pub place : Shown → ℕ
 place Nothing = 0
 place (Refused n p) = placed 0 p
-place (Unread h c) = end h
-place (TableDump h r) = end h
-place (PeerTable h p) = end h
-place (Rib h r) = end h
-place (RibGeneric h f s r) = end h
-place (Change h s o n) = end h
-place (Message h s b k) = end h
+place (Good h b) = end h
 
 -- in microseconds
 abbrev pub time : Header → ℕ
@@ -46,17 +53,28 @@ time h = h .timestamp * 1000000 + h .microseconds
 abbrev pub within : List ℕ → Part → List ℕ
 within m p = take (p .size) (drop (p .at) m)
 
--- the part that a record carries: unread contents, attributes, view name or BGP message; none in the others
+-- the part that a body carries: unread contents, attributes, view name or BGP message; none in the others
+abbrev pub carriedIn : List ℕ → Body → List ℕ
+carriedIn m (Unread c) = within m c
+carriedIn m (TableDump r) = within m (r .attributes)
+carriedIn m (PeerTable p) = within m (p .name)
+carriedIn m (Rib r) = []
+carriedIn m (RibGeneric f r) = []
+carriedIn m (Change s w) = []
+carriedIn m (Message s b) = within m (b .message)
+
 abbrev pub carried : List ℕ → Shown → List ℕ
-carried m Nothing = []
-carried m (Refused n p) = []
-carried m (Unread h c) = within m c
-carried m (TableDump h r) = within m (r .attributes)
-carried m (PeerTable h p) = within m (p .name)
-carried m (Rib h r) = []
-carried m (RibGeneric h f s r) = []
-carried m (Change h s o n) = []
-carried m (Message h s b k) = within m b
+carried m x = ofBody [] (carriedIn m) x
+
+-- the table in force behind a record of this body, where t was in force before: only a peer table changes it
+abbrev pub tableBehind : Table → Body → Table
+tableBehind t (Unread c) = t
+tableBehind t (TableDump r) = t
+tableBehind t (PeerTable p) = Holds (p .count)
+tableBehind t (Rib r) = t
+tableBehind t (RibGeneric f r) = t
+tableBehind t (Change s w) = t
+tableBehind t (Message s b) = t
 
 -- an entry's attributes
 abbrev pub entryAttributes : List ℕ → Entry → List ℕ

@@ -16,12 +16,13 @@ use Rattle.page.specs.TableDump.{tableDump}
 use Rattle.page.specs.Layout.{kind}
 use Rattle.page.specs.declared.Kind.{Kind}
 use Rattle.page.specs.declared.Kind.the-variants as chosen
-use Rattle.shown.specs.Told as show
+use Rattle.shown.specs.Fields as show
 use Rattle.shown.specs.declared.Header.{Header}
 use Rattle.shown.specs.declared.Table.{Table}
 use Rattle.shown.specs.declared.Table.the-variants.{Absent, Holds}
 use Rattle.shown.specs.declared.Shown.{Shown}
-use Rattle.shown.specs.declared.Shown.the-variants.{Nothing, Refused, Unread}
+use Rattle.shown.specs.declared.Shown.the-variants.{Nothing, Refused, Good}
+use Rattle.shown.specs.declared.Body.the-variants.{Unread}
 
 -- the header, with the microseconds that the message starts with
 abbrev pub header : List ℕ → (microseconds : ℕ) → Header
@@ -40,24 +41,41 @@ unfoldable pub tabled : Table → (ℕ → Shown) → Shown
 tabled Absent k = Refused 12 6
 tabled (Holds peers) k = k peers
 
--- m is a record from its header to its last octet; `most` is the longest BGP message
-unfoldable pub shownAs : (most : ℕ) → Table → List ℕ → Kind → Shown
-shownAs most t m (chosen.Refused n place) = Refused n place
-shownAs most t m (chosen.Unread micro) = behind (microAt m micro) λ u at. Unread (header m u) (show.restFrom m at)
-shownAs most t m (chosen.TableDump size) = whole (show.tableDump (header m 0)) Refused (tableDump size) m 12
-shownAs most t m chosen.PeerTable = whole (show.peerTable (header m 0) m) Refused peerTable m 12
-shownAs most t m (chosen.Rib bits) = tabled t λ peers. whole (show.rib (header m 0) m) Refused (rib bits peers) m 12
-shownAs most t m chosen.RibGeneric = tabled t λ peers. whole (show.ribGeneric (header m 0) m) Refused (ribGeneric peers) m 12
-shownAs most t m (chosen.Change micro w) = behind (microAt m micro) λ u at. whole (show.change (header m u)) Refused (session w stateChange) m at
-shownAs most t m (chosen.Message micro w) = behind (microAt m micro) λ u at. whole (show.message (header m u)) Refused (session w (message most)) m at
+-- ---- each kind; m is a record from its header to its last octet
 
-unfoldable pub wholeRecord : (most : ℕ) → Table → List ℕ → Shown
-wholeRecord most t m = shownAs most t m (kind (numAt m 4 2) (numAt m 6 2))
+abbrev pub shownUnread : List ℕ → (micro : ℕ) → Shown
+shownUnread m micro = behind (microAt m micro) λ u at. Good (header m u) (Unread (show.restFrom m at))
+
+abbrev pub shownRib : Table → List ℕ → (bits : ℕ) → Shown
+shownRib t m bits = tabled t λ peers. whole (show.rib (header m 0) m) Refused (rib bits peers) m 12
+
+abbrev pub shownGeneric : Table → List ℕ → Shown
+shownGeneric t m = tabled t λ peers. whole (show.ribGeneric (header m 0) m) Refused (ribGeneric peers) m 12
+
+abbrev pub shownChange : List ℕ → (micro width : ℕ) → Shown
+shownChange m micro w = behind (microAt m micro) λ u at. whole (show.change (header m u)) Refused (session w stateChange) m at
+
+-- `longest` is the longest BGP message
+abbrev pub shownMessage : (longest : ℕ) → List ℕ → (micro width : ℕ) → Shown
+shownMessage longest m micro w = behind (microAt m micro) λ u at. whole (show.message (header m u)) Refused (session w (message longest)) m at
+
+unfoldable pub shownAs : (longest : ℕ) → Table → List ℕ → Kind → Shown
+shownAs longest t m (chosen.Refused n place) = Refused n place
+shownAs longest t m (chosen.Unread micro) = shownUnread m micro
+shownAs longest t m (chosen.TableDump size) = whole (show.tableDump (header m 0)) Refused (tableDump size) m 12
+shownAs longest t m chosen.PeerTable = whole (show.peerTable (header m 0) m) Refused peerTable m 12
+shownAs longest t m (chosen.Rib bits) = shownRib t m bits
+shownAs longest t m chosen.RibGeneric = shownGeneric t m
+shownAs longest t m (chosen.Change micro w) = shownChange m micro w
+shownAs longest t m (chosen.Message micro w) = shownMessage longest m micro w
+
+unfoldable pub wholeRecord : (longest : ℕ) → Table → List ℕ → Shown
+wholeRecord longest t m = shownAs longest t m (kind (numAt m 4 2) (numAt m 6 2))
 
 -- octets behind the record are not looked at
-unfoldable pub readOne : (most : ℕ) → Table → List ℕ → Shown
-readOne most t s =
+unfoldable pub readOne : (longest : ℕ) → Table → List ℕ → Shown
+readOne longest t s =
     choose (eqb (length s) 0) Nothing
     $ choose (ltb (length s) 12) (Refused 1 0)
     $ choose (ltb (length s - 12) (numAt s 8 4)) (Refused 2 0)
-    $ wholeRecord most t (take (12 + numAt s 8 4) s)
+    $ wholeRecord longest t (take (12 + numAt s 8 4) s)

@@ -16,18 +16,27 @@ use Rattle.flow.specs.declared.Num.{Num}
 use Rattle.flow.specs.declared.Num.the-variants.{Value, Short}
 use Rattle.shown.specs.declared.Shown.{Shown}
 use Rattle.shown.specs.declared.Shown.the-variants.{Refused}
-use Rattle.reading.specs.One.{behind}
+use Rattle.shown.specs.declared.Header.{Header}
+use Rattle.reading.specs.One.{header, behind}
+use Rattle.record.specs.Stamp.{stampOf}
+use Rattle.record.specs.declared.Stamp.{Stamp}
+use Rattle.record.specs.declared.Stamp.the-variants.{With}
+use Rattle.record.specs.declared.Stamp.the-variants as stamp
 use Rattle.record.specs.Small.{Small}
 
-module _ (r n : Num) (k : ℕ → ℕ → Shown) (e : r ≡ n) where
-  -- the microseconds were there, or there are none
-  pub behind-value : (u at : ℕ) (y : Shown) → r ≡ Value u at → y ≡ k u at → y ≡ behind n k
-  unfolding behind
-  behind-value u at y g h = h ∙ rw (sym e ∙ g)
+-- the header h was read with its microseconds, and k says what stands behind them at a place
+module _ (m : List ℕ) (k : Header → ℕ → Shown) where
+  abbrev pub onward : Stamp → Shown
+  onward (With h at) = k h at
+  onward stamp.Short = Refused 5 12
 
-  pub behind-short : r ≡ Short → Refused 5 12 ≡ behind n k
+  onward-is : (n : Num) → onward (stampOf m n) ≡ behind n (λ u at. k (header m u) at)
   unfolding behind
-  behind-short g = rw (sym e ∙ g)
+  onward-is (Value u at) = refl
+  onward-is Short = refl
+
+  pub stamped : (n : Num) {r x : Stamp} → r ≡ stampOf m n → r ≡ x → onward x ≡ behind n (λ u at. k (header m u) at)
+  stamped n e q = ap onward (sym q ∙ e) ∙ onward-is n
 
 -- a field of at most 4 octets is below 2 ^ 32
 pub small-field : (m : List ℕ) (at w : ℕ) (r : Num) → ((k : ℕ) → getD m k 0 < 256) → w ≤ 4 → r ≡ fieldAt m at w → Small r

@@ -3,9 +3,10 @@ ghost use mathlib.Core.Path.{_≡_};
 ghost use Prim.Native.Nat.{_≤_};
 ghost use lib.ListN.{length};
 ghost use Rattle.page.specs.Sane.{Sane};
-ghost use Rattle.reading.specs.One.{header, microAt, shownAs, wholeRecord, readOne};
+ghost use Rattle.page.specs.Bgp4mp.{longestMessage};
+ghost use Rattle.reading.specs.One.{header, microAt, shownUnread, shownRib, shownGeneric, shownChange, shownMessage, shownAs, wholeRecord, readOne};
 ghost use Rattle.record.specs.Small.{Small};
-ghost use Rattle.page.specs.declared.Kind.the-variants as chosen;
+ghost use Rattle.record.specs.Stamp.{stampOf};
 use bgp::bgp_message;
 use bgp::state_change;
 use flow::Num;
@@ -14,17 +15,16 @@ use flow::left;
 use kind::kind_of;
 use num::number;
 use page::Kind;
+use page::LONGEST_MESSAGE;
 use peers::peer_table;
 use rib::rib_at;
 use rib::rib_generic;
+use shown::Body;
 use shown::Header;
 use shown::Part;
 use shown::Shown;
 use shown::Table;
 use table_dump::table_dump;
-
-// The longest BGP message.
-const MOST: u64 = 4096;
 
 fn header_of(m: &[u8], microseconds: u32) -> Header
     requires { ⌜ 12 ≤ length (now m) ⌝ }
@@ -50,49 +50,64 @@ fn micro_at(m: &[u8], micro: usize) -> Num
     field(m, 12, micro)
 }
 
-fn unread(m: &[u8], micro: usize, t: Table, most: u64) -> Shown
+// The header with its microseconds, and where the message goes on.
+pub enum Stamp {
+    With(Header, usize),
+    Short,
+}
+
+fn stamp_at(m: &[u8], micro: usize) -> Stamp
     requires { ⌜ 12 ≤ length (now m) ⌝ }
     requires { ⌜ micro ≤ 4 ⌝ }
-    ensures { λ r. ⌜ r ≡ shownAs most t (now (m .entry)) (chosen.Unread micro) ⌝ }
+    ensures { λ r. ⌜ r ≡ stampOf (now (m .entry)) (microAt (now (m .entry)) micro) ⌝ }
 {
     let Num::Value(u, at) = micro_at(m, micro) else {
-        return Shown::Refused(5, 12);
+        return Stamp::Short;
     };
-    Shown::Unread(
-        header_of(m, u as u32),
-        Part {
-            at,
-            size: left(m, at),
-        },
-    )
+    Stamp::With(header_of(m, u as u32), at)
 }
 
-fn change(m: &[u8], micro: usize, width: usize, t: Table, most: u64) -> Shown
+fn unread(m: &[u8], micro: usize) -> Shown
+    requires { ⌜ 12 ≤ length (now m) ⌝ }
+    requires { ⌜ micro ≤ 4 ⌝ }
+    ensures { λ r. ⌜ r ≡ shownUnread (now (m .entry)) micro ⌝ }
+{
+    let Stamp::With(h, at) = stamp_at(m, micro) else {
+        return Shown::Refused(5, 12);
+    };
+    let contents = Part {
+        at,
+        size: left(m, at),
+    };
+    Shown::Good(h, Body::Unread(contents))
+}
+
+fn change(m: &[u8], micro: usize, width: usize) -> Shown
     requires { ⌜ 12 ≤ length (now m) ⌝ }
     requires { ⌜ (micro ≤ 4) × (width ≤ 8) ⌝ }
-    ensures { λ r. ⌜ r ≡ shownAs most t (now (m .entry)) (chosen.Change micro width) ⌝ }
+    ensures { λ r. ⌜ r ≡ shownChange (now (m .entry)) micro width ⌝ }
 {
-    let Num::Value(u, at) = micro_at(m, micro) else {
+    let Stamp::With(h, at) = stamp_at(m, micro) else {
         return Shown::Refused(5, 12);
     };
-    state_change(m, at, width, header_of(m, u as u32))
+    state_change(m, at, width, h)
 }
 
-fn message(m: &[u8], micro: usize, width: usize, t: Table, most: u64) -> Shown
+fn message(m: &[u8], micro: usize, width: usize, longest: u64) -> Shown
     requires { ⌜ 12 ≤ length (now m) ⌝ }
     requires { ⌜ (micro ≤ 4) × (width ≤ 8) ⌝ }
-    ensures { λ r. ⌜ r ≡ shownAs most t (now (m .entry)) (chosen.Message micro width) ⌝ }
+    ensures { λ r. ⌜ r ≡ shownMessage longest (now (m .entry)) micro width ⌝ }
 {
-    let Num::Value(u, at) = micro_at(m, micro) else {
+    let Stamp::With(h, at) = stamp_at(m, micro) else {
         return Shown::Refused(5, 12);
     };
-    bgp_message(m, at, width, most, header_of(m, u as u32))
+    bgp_message(m, at, width, longest, h)
 }
 
-fn rib_told(m: &[u8], bits: u64, t: Table, most: u64) -> Shown
+fn rib(m: &[u8], bits: u64, t: Table) -> Shown
     requires { ⌜ 12 ≤ length (now m) ⌝ }
     requires { ⌜ bits ≤ 128 ⌝ }
-    ensures { λ r. ⌜ r ≡ shownAs most t (now (m .entry)) (chosen.Rib bits) ⌝ }
+    ensures { λ r. ⌜ r ≡ shownRib t (now (m .entry)) bits ⌝ }
 {
     let Table::Holds(peers) = t else {
         return Shown::Refused(12, 6);
@@ -100,9 +115,9 @@ fn rib_told(m: &[u8], bits: u64, t: Table, most: u64) -> Shown
     rib_at(m, 12, bits, peers, header_of(m, 0))
 }
 
-fn generic_told(m: &[u8], t: Table, most: u64) -> Shown
+fn generic(m: &[u8], t: Table) -> Shown
     requires { ⌜ 12 ≤ length (now m) ⌝ }
-    ensures { λ r. ⌜ r ≡ shownAs most t (now (m .entry)) chosen.RibGeneric ⌝ }
+    ensures { λ r. ⌜ r ≡ shownGeneric t (now (m .entry)) ⌝ }
 {
     let Table::Holds(peers) = t else {
         return Shown::Refused(12, 6);
@@ -111,34 +126,34 @@ fn generic_told(m: &[u8], t: Table, most: u64) -> Shown
 }
 
 // A record of a kind; m runs from its header to its last octet.
-fn show(m: &[u8], k: Kind, t: Table, most: u64) -> Shown
+fn show(m: &[u8], k: Kind, t: Table, longest: u64) -> Shown
     requires { ⌜ 12 ≤ length (now m) ⌝ }
     requires { ⌜ Sane k ⌝ }
-    ensures { λ r. ⌜ r ≡ shownAs most t (now (m .entry)) k ⌝ }
+    ensures { λ r. ⌜ r ≡ shownAs longest t (now (m .entry)) k ⌝ }
 {
     match k {
         Kind::Refused(n, place) => Shown::Refused(n, place),
-        Kind::Unread(micro) => unread(m, micro, t, most),
+        Kind::Unread(micro) => unread(m, micro),
         Kind::TableDump(size) => table_dump(m, 12, size, header_of(m, 0)),
         Kind::PeerTable => peer_table(m, 12, header_of(m, 0)),
-        Kind::Rib(bits) => rib_told(m, bits, t, most),
-        Kind::RibGeneric => generic_told(m, t, most),
-        Kind::Change(micro, width) => change(m, micro, width, t, most),
-        Kind::Message(micro, width) => message(m, micro, width, t, most),
+        Kind::Rib(bits) => rib(m, bits, t),
+        Kind::RibGeneric => generic(m, t),
+        Kind::Change(micro, width) => change(m, micro, width),
+        Kind::Message(micro, width) => message(m, micro, width, longest),
     }
 }
 
-fn whole_record(m: &[u8], t: Table, most: u64) -> Shown
+fn whole_record(m: &[u8], t: Table, longest: u64) -> Shown
     requires { ⌜ 12 ≤ length (now m) ⌝ }
-    ensures { λ r. ⌜ r ≡ wholeRecord most t (now (m .entry)) ⌝ }
+    ensures { λ r. ⌜ r ≡ wholeRecord longest t (now (m .entry)) ⌝ }
 {
     let k = kind_of(number(m, 4, 2), number(m, 6, 2));
-    show(m, k, t, most)
+    show(m, k, t, longest)
 }
 
-// The record that starts s, where the table t is told. Octets behind it are not looked at.
-pub fn read_record(s: &[u8], t: Table) -> Shown
-    ensures { λ r. ⌜ r ≡ readOne 4096 t (now (s .entry)) ⌝ }
+// The record that starts s, where the table t is told and a BGP message has at most `longest` octets. Octets behind it are not looked at.
+pub fn read_with(s: &[u8], t: Table, longest: u64) -> Shown
+    ensures { λ r. ⌜ r ≡ readOne longest t (now (s .entry)) ⌝ }
 {
     if s.len() == 0 {
         return Shown::Nothing;
@@ -151,5 +166,12 @@ pub fn read_record(s: &[u8], t: Table) -> Shown
         return Shown::Refused(2, 0);
     }
     let end = 12 + length;
-    whole_record(&s[0..end], t, MOST)
+    whole_record(&s[0..end], t, longest)
+}
+
+// The same under RFC 4271's limit.
+pub fn read_record(s: &[u8], t: Table) -> Shown
+    ensures { λ r. ⌜ r ≡ readOne longestMessage t (now (s .entry)) ⌝ }
+{
+    read_with(s, t, LONGEST_MESSAGE)
 }

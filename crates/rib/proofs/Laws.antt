@@ -3,7 +3,7 @@ use mathlib.Core.Path.{_≡_, refl}
 use mathlib.Core.List.{List}
 use Prim.Native.Nat.{ℕ}
 use Rattle.form.specs.Pass.{Seen}
-use Rattle.shown.specs.Told.{entry}
+use Rattle.shown.specs.Fields.{entry}
 use Rattle.shown.specs.declared.Entry.{Entry}
 use Rattle.shown.specs.declared.Entry.the-variants.{At, Bad}
 use Rattle.shown.specs.declared.Shown.{Shown}

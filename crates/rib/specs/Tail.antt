@@ -4,8 +4,9 @@ use mathlib.Core.Bool.{Bool, true, false}
 use Rattle.shown.specs.declared.Header.{Header}
 use Rattle.shown.specs.declared.Routes.{Routes}
 use Rattle.shown.specs.declared.Shown.{Shown}
-use Rattle.shown.specs.declared.Shown.the-variants.{Rib, RibGeneric}
+use Rattle.shown.specs.declared.Shown.the-variants.{Good}
+use Rattle.shown.specs.declared.Body.the-variants.{Rib, RibGeneric}
 
 abbrev pub tail : Header → Bool → (family safi : ℕ) → Routes → Shown
-tail h true f s r = RibGeneric h f s r
-tail h false f s r = Rib h r
+tail h true f s r = Good h (RibGeneric (record { family = f; safi = s }) r)
+tail h false f s r = Good h (Rib r)

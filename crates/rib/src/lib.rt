@@ -4,11 +4,11 @@ ghost use Prim.Native.Nat.{_+_, _≤_};
 ghost use Rattle.form.specs.Fmt.{end};
 ghost use Rattle.form.specs.Pass.{pass, whole, times};
 ghost use Rattle.page.specs.Rib.{tiling, entry, entryList, prefix, rib, ribGeneric};
-ghost use Rattle.shown.specs.Told.{partOf, routesOf};
-ghost use Rattle.shown.specs.Told as show;
+ghost use Rattle.shown.specs.Fields.{partOf, routesOf};
+ghost use Rattle.shown.specs.Fields as show;
 ghost use Rattle.page.specs.Names.{attributeOctets};
 ghost use Rattle.rib.specs.Tail.{tail};
-ghost use Rattle.shown.specs.declared.Shown.the-variants.{Rib, RibGeneric, Refused};
+ghost use Rattle.shown.specs.declared.Shown.the-variants.{Refused};
 ghost use Rattle.shown.specs.declared.Entry.the-variants.{At, Bad};
 use copy::part;
 use flow::Num;
@@ -16,10 +16,12 @@ use flow::Room;
 use flow::field;
 use flow::left;
 use flow::skip;
+use shown::Body;
 use shown::Entry;
 use shown::Header;
 use shown::Part;
 use shown::Routes;
+use shown::Scope;
 use shown::Shown;
 
 fn attributes_at(m: &[u8], at: usize, n: usize, index: u64, originated: u64) -> Entry
@@ -121,9 +123,9 @@ fn shown_as(h: Header, generic: bool, family: u64, safi: u64, r: Routes) -> Show
     ensures { λ s. ⌜ s ≡ tail h generic family safi r ⌝ }
 {
     if generic {
-        return Shown::RibGeneric(h, family, safi, r);
+        return Shown::Good(h, Body::RibGeneric(Scope { family, safi }, r));
     }
-    Shown::Rib(h, r)
+    Shown::Good(h, Body::Rib(r))
 }
 
 // The message of subtypes 2 to 5, whose prefix has at most `most` bits; it starts at `at` and ends where m ends.

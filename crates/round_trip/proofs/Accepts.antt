@@ -6,21 +6,25 @@ use Prim.Native.Nat.{ℕ, _<_}
 use native.Mathlib.Omega.{arith}
 use lib.ListN.{length, length-replicate}
 use Rattle.form.specs.Octets.{Octets}
-use Rattle.form.specs.Fmt.{Out, bad, good}
+use Rattle.form.specs.Fmt.{Out, bad, good, Fits}
 use Rattle.form.specs.Words.{choose}
-use Rattle.form.specs.Shape.{St}
+use Rattle.form.specs.Body.{Body, plain, BodyFits}
+use Rattle.form.specs.Shape.{St, plan}
 use Rattle.form.specs.Record.{Rec, write, readRec, Valid}
 use Rattle.form.proofs.Fmt.{Right}
 use Rattle.form.proofs.Record.{sound-rec}
 use Rattle.form.proofs.Exactly.{exactly}
-use Rattle.page.specs.Layout.{layout}
-use Rattle.shown.specs.declared.Shown.{Shown}
-use Rattle.shown.specs.declared.Shown.the-variants.{Nothing}
+use Rattle.page.specs.Layout.{kind, layoutOf, layout}
+use Rattle.page.specs.declared.Kind.{Kind}
+use Rattle.page.specs.declared.Kind.the-variants as kinds
+use Rattle.page.proofs.Choice.{Says, kind-says}
+use Rattle.shown.specs.declared.Shown.the-variants.{Nothing, Refused}
 use Rattle.shown.specs.declared.Table.{Table}
 use Rattle.shown.specs.declared.Table.the-variants.{Absent, Holds}
 use Rattle.shown.specs.Table.{tableOf}
 use Rattle.reading.specs.One.{readOne}
 use Rattle.reading.specs.Answer.{fault}
+use Rattle.writing.specs.Only.{writer}
 use Rattle.round_trip.specs.Tells.{Tells}
 use Rattle.round_trip.specs.Agrees.{Agrees, Same}
 use Rattle.round_trip.proofs.One.{one-record}
@@ -52,3 +56,20 @@ accepts-one most t st tells s oc h =
         differ : (n p : ℕ) (r : Rec) (q : List ℕ) → _≡_ {A = Out Rec} (bad n p) (good r q) → ⊥
         differ n p r q z = let y : _≡_ {A = ℕ} 0 1 = cc in omega arith
     go (good r q) e a w = (λ z. (r, q, w .0, w .1), λ v. a .accepted)
+
+-- a record of a kind that has no writer is not well-formed
+unlisted : (most : ℕ) (st : St) (y u : ℕ) (k : Kind) (b : Body) → Says y u k → 0 ≡ writer k → BodyFits (plan st (layoutOf most k)) b → ⊥
+unfolding layoutOf plan BodyFits Fits
+unlisted most st y u (kinds.Refused n p) (plain cs) h e f = omega (arith, h .0, f .0)
+unlisted most st y u (kinds.Unread micro) b h e f = omega arith
+unlisted most st y u (kinds.TableDump size) b h e f = omega arith
+unlisted most st y u kinds.PeerTable b h e f = omega arith
+unlisted most st y u (kinds.Rib bits) b h e f = omega arith
+unlisted most st y u kinds.RibGeneric b h e f = omega arith
+unlisted most st y u (kinds.Change micro w) b h e f = omega arith
+unlisted most st y u (kinds.Message micro w) b h e f = omega arith
+
+-- so no well-formed record is shown as a fault, wherever faults are placed
+pub not-refused : (most : ℕ) (st : St) (s : List ℕ) (r : Rec) (n p : ℕ) → Valid (layout most) st r → Same most s r (Refused n p) → ⊥
+unfolding layout
+not-refused most st s r n p v m = unlisted most st (r .type) (r .sub) (kind (r .type) (r .sub)) (r .body) (kind-says (r .type) (r .sub)) (m .whose) (v .fits)

@@ -24,11 +24,11 @@ use Rattle.page.specs.Bgp4mp.{session, stateChange, message}
 use Rattle.page.specs.Layout.{kind, layoutOf, stamped, finer}
 use Rattle.page.specs.declared.Kind.{Kind}
 use Rattle.page.specs.declared.Kind.the-variants.{Change, Message}
-use Rattle.shown.specs.Told as show
+use Rattle.shown.specs.Fields as show
 use Rattle.shown.specs.declared.Header.{Header}
 use Rattle.shown.specs.declared.Shown.{Shown}
 use Rattle.shown.specs.declared.Shown.the-variants.{Refused}
-use Rattle.reading.specs.Answer.{fault, place, end}
+use Rattle.reading.specs.Answer.{fault, place, headerOf, end}
 use Rattle.reading.specs.One.{microAt, behind}
 use Rattle.writing.specs.Times.{bgp4mp}
 use Rattle.writing.specs.Only.{writer}
@@ -36,7 +36,7 @@ use Rattle.writing.specs.Givens.{bgpGiven}
 use Rattle.writing.specs.declared.Time.{Time}
 use Rattle.writing.specs.declared.Time.the-variants.{Seconds, Micro}
 use Rattle.round_trip.specs.Again.{clock, again}
-use Rattle.round_trip.specs.Agrees.{headerOf, writerOf, Same}
+use Rattle.round_trip.specs.Agrees.{writerOf, Same}
 use Rattle.page.proofs.Choice.{Bgp}
 use Rattle.round_trip.proofs.Parts.{by-parts, rest-here}
 use Rattle.round_trip.proofs.Same.{head, rec, Stands, Reads, same, fields-agree}

@@ -18,7 +18,7 @@ use Rattle.form.specs.Put.{Value, lay}
 use Rattle.form.specs.Gives.{Fit}
 use Rattle.page.specs.Names.{microseconds, peerAs, localAs, interface, family, oldState, newState, marker, bgpLength}
 use Rattle.page.specs.Bgp4mp.{addresses, session, state, stateChange, message, messageRest}
-use Rattle.shown.specs.Told as show
+use Rattle.shown.specs.Fields as show
 use Rattle.shown.specs.declared.Header.{Header}
 use Rattle.shown.specs.declared.Shown.{Shown}
 use Rattle.reading.specs.Answer.{within}

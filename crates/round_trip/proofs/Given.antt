@@ -10,7 +10,8 @@ use Rattle.form.specs.Put.{Value, digits, bytes, spelled, lay, Tail, Given}
 use Rattle.form.specs.Gives.{FitOne, Fit, Gives}
 use Rattle.form.proofs.Octets.{be-toBe}
 use Rattle.shown.specs.declared.Shown.{Shown}
-use Rattle.shown.specs.declared.Shown.the-variants.{Nothing, Refused, Unread, TableDump, PeerTable, Rib, RibGeneric, Change, Message}
+use Rattle.shown.specs.declared.Shown.the-variants.{Nothing, Refused, Good}
+use Rattle.shown.specs.declared.Body.the-variants.{Unread, TableDump, PeerTable, Rib, RibGeneric, Change, Message}
 use Rattle.reading.specs.Answer.{within}
 use Rattle.writing.specs.Times.{microOf}
 use Rattle.writing.specs.Only.{changes, messages, unreads}
@@ -74,10 +75,12 @@ pub formed-again : (s : List ℕ) (x : Shown) → forms (again s x .values) ≡ 
 unfolding formsFor choose
 formed-again s Nothing = refl
 formed-again s (Refused n p) = refl
-formed-again s (Unread h c) = formed-unread (clock h) (h .ty) (h .subtype) (within s c)
-formed-again s (TableDump h r) = refl
-formed-again s (PeerTable h p) = refl
-formed-again s (Rib h r) = refl
-formed-again s (RibGeneric h f i r) = refl
-formed-again s (Change h e o n) = formed-change (clock h) (h .subtype) (e .peer) (e .local) (e .interface) (e .family) (within s (e .theirs)) (within s (e .ours)) o n
-formed-again s (Message h e b k) = formed-message (clock h) (h .subtype) (e .peer) (e .local) (e .interface) (e .family) (within s (e .theirs)) (within s (e .ours)) (within s b)
+formed-again s (Good h (Unread c)) = formed-unread (clock h) (h .ty) (h .subtype) (within s c)
+formed-again s (Good h (TableDump r)) = refl
+formed-again s (Good h (PeerTable p)) = refl
+formed-again s (Good h (Rib r)) = refl
+formed-again s (Good h (RibGeneric f r)) = refl
+formed-again s (Good h (Change e w)) =
+    formed-change (clock h) (h .subtype) (e .peer) (e .local) (e .interface) (e .family) (within s (e .theirs)) (within s (e .ours)) (w .old) (w .new)
+formed-again s (Good h (Message e b)) =
+    formed-message (clock h) (h .subtype) (e .peer) (e .local) (e .interface) (e .family) (within s (e .theirs)) (within s (e .ours)) (within s (b .message))

@@ -5,10 +5,8 @@ use Prim.Native.Nat.{ℕ, _+_, _≤_, _<_}
 use native.Mathlib.Omega.{arith}
 use lib.ListN.{length, take, drop, length-append}
 use lib.Seq.{take-at, length-take-le}
-use borrow.Author.Tests.{le-ltb}
 use Rattle.form.specs.Octets.{Octets}
 use Rattle.form.specs.Fmt.{Out, bad, good}
-use Rattle.form.specs.Words.{choose}
 use Rattle.form.specs.Shape.{St, noTable}
 use Rattle.form.specs.Record.{Rec, write, readRec, Valid}
 use Rattle.form.specs.Put.{octets, recordRefusal}
@@ -22,8 +20,9 @@ use Rattle.shown.specs.declared.Table.{Table}
 use Rattle.reading.specs.Answer.{fault, place}
 use Rattle.reading.specs.One.{readOne}
 use Rattle.writing.specs.Only.{ribs, genericRibs, writer, only}
-use Rattle.writing.specs.Verdict.{written, holds, answers, leaves}
-use Rattle.writing.specs.declared.Written.the-variants as one
+use Rattle.room_spec.specs.declared.Written.the-variants as room
+use Rattle.room_laws.proofs.Room.{fits}
+use Rattle.writing.specs.Verdict.{answers, leaves}
 use Rattle.round_trip.specs.Tells.{Tells}
 use Rattle.round_trip.specs.Again.{again}
 use Rattle.round_trip.specs.Agrees.{writerOf, Agrees}
@@ -59,17 +58,18 @@ module _ (most : ℕ) (t : Table) (st : St) (tells : Tells t st) (s : List ℕ) 
 
   -- so does its writer, into a buffer that has the room
   pub record Back (other : Kind) (su : St) (out : List ℕ) : Type 0 where
-    pub answer : answers (only (writerOf x) other most) su (again s x) out ≡ one.Octets (place x)
+    pub answer : answers (only (writerOf x) other most) su (again s x) out ≡ room.Octets (place x)
     pub left : leaves (only (writerOf x) other most) su (again s x) out ≡ take (place x) s ++ drop (place x) out
 
   back : (su : St) → recordRefusal (layout most) su (again s x) ≡ 0 → (other : Kind) (out : List ℕ) → place x ≤ length out → Back other su out
-  unfolding written holds choose
   back su e other out h =
       let z : only (writerOf x) other most (again s x .type) (again s x .sub) ≡ layout most (again s x .type) (again s x .sub) =
       only-own (writerOf x) other most (again s x .type) (again s x .sub) (restores-bytes .whose) in
       let d : recordRefusal (only (writerOf x) other most) su (again s x) ≡ 0 = refusal-own (only (writerOf x) other most) (layout most) su (again s x) z ∙ e in
       let l : length (take (place x) s) ≡ place x = length-take-le (place x) s (restores-bytes .inside) in
-      record { answer = rw (d, restores-bytes .bytes, l, le-ltb (length out) (place x) h); left = rw (d, restores-bytes .bytes, l, le-ltb (length out) (place x) h) }
+      let k : length (octets (again s x)) ≡ place x = ap length (restores-bytes .bytes) ∙ l in
+      let z = fits (recordRefusal (only (writerOf x) other most) su (again s x)) 0 (octets (again s x)) out d (omega arith) in
+      record { answer = sym (z .0) ∙ ap room.Octets k; left = sym (z .1) ∙ rw (k, restores-bytes .bytes) }
 
   pub writes-back : (other : Kind) (out : List ℕ) → place x ≤ length out → Back other st out
   writes-back other out h = back st (restores-bytes .refused) other out h

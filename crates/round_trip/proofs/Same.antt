@@ -23,10 +23,10 @@ use Rattle.page.specs.declared.Kind.{Kind}
 use Rattle.shown.specs.declared.Header.{Header}
 use Rattle.shown.specs.declared.Shown.{Shown}
 use Rattle.shown.specs.declared.Shown.the-variants.{Refused}
-use Rattle.reading.specs.Answer.{fault, place}
+use Rattle.reading.specs.Answer.{fault, place, headerOf}
 use Rattle.writing.specs.Only.{writer}
 use Rattle.round_trip.specs.Again.{again}
-use Rattle.round_trip.specs.Agrees.{headerOf, writerOf, Typed, Same, Agrees}
+use Rattle.round_trip.specs.Agrees.{writerOf, Typed, Same, Agrees}
 use Rattle.round_trip.proofs.Parts.{rest-here}
 
 abbrev pub head : (timestamp type sub length microseconds : ℕ) → Header

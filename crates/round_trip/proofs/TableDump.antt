@@ -14,7 +14,7 @@ use Rattle.page.specs.Rib.{attributes, tiling}
 use Rattle.page.specs.TableDump.{tableDump, tableDumpRest}
 use Rattle.page.specs.Layout.{kind, layoutOf}
 use Rattle.page.specs.declared.Kind.the-variants.{TableDump}
-use Rattle.shown.specs.Told as show
+use Rattle.shown.specs.Fields as show
 use Rattle.shown.specs.declared.Shown.the-variants.{Refused}
 use Rattle.round_trip.specs.Again.{again}
 use Rattle.round_trip.proofs.Parts.{Parts, by-parts, spells, below}

@@ -24,17 +24,17 @@ use Rattle.page.specs.Layout.{kind, layoutOf}
 use Rattle.page.specs.declared.Kind.{Kind}
 use Rattle.page.specs.declared.Kind.the-variants.{PeerTable, Rib, RibGeneric}
 use Rattle.page.proofs.Same.{rib-then, generic-then, table-then}
-use Rattle.shown.specs.Told as show
+use Rattle.shown.specs.Fields as show
 use Rattle.shown.specs.declared.Shown.{Shown}
 use Rattle.shown.specs.declared.Shown.the-variants.{Refused}
 use Rattle.shown.specs.declared.Table.{Table}
 use Rattle.shown.specs.declared.Table.the-variants.{Absent, Holds}
-use Rattle.reading.specs.Answer.{fault, place}
+use Rattle.reading.specs.Answer.{fault, place, headerOf}
 use Rattle.reading.specs.One.{tabled}
 use Rattle.writing.specs.Only.{writer}
 use Rattle.round_trip.specs.Tells.{Tells}
 use Rattle.round_trip.specs.Again.{again}
-use Rattle.round_trip.specs.Agrees.{headerOf, writerOf, Typed}
+use Rattle.round_trip.specs.Agrees.{writerOf, Typed}
 use Rattle.round_trip.proofs.Parts.{Parts, by-parts, parts-choose, spells, below}
 use Rattle.round_trip.proofs.Same.{head, rec, Stands, Reads, same, rest-is, many-agree}
 

@@ -17,9 +17,10 @@ use Rattle.form.proofs.Pass.{seen}
 use Rattle.page.specs.Names.{microseconds}
 use Rattle.page.specs.Layout.{kind, layoutOf, stamped, finer}
 use Rattle.page.specs.declared.Kind.the-variants as chosen
-use Rattle.shown.specs.Told.{restFrom}
+use Rattle.shown.specs.Fields.{restFrom}
 use Rattle.shown.specs.declared.Shown.{Shown}
-use Rattle.shown.specs.declared.Shown.the-variants.{Refused, Unread}
+use Rattle.shown.specs.declared.Shown.the-variants.{Refused, Good}
+use Rattle.shown.specs.declared.Body.the-variants.{Unread}
 use Rattle.reading.specs.One.{microAt, behind}
 use Rattle.round_trip.specs.Agrees.{Same}
 use Rattle.page.proofs.Choice.{Says}
@@ -32,7 +33,7 @@ behind-pass m g = behind-micro m g
 
 module _ (most : ℕ) (s m q : List ℕ) (t y u len : ℕ) (l : Stands s m q len) where
   abbrev shows : List Seen → ℕ → Shown
-  shows fs a = Unread (head t y u len (numberOf microseconds fs)) (restFrom m a)
+  shows fs a = Good (head t y u len (numberOf microseconds fs)) (Unread (restFrom m a))
 
   plainly : finer y ≡ false → kind y u ≡ chosen.Unread 0 → (cs : List (List ℕ)) (c : List ℕ) → Fits (end 0) cs → join cs ++ c ≡ drop 12 m
       → Same most s (rec t y u (loose cs c)) (shows (seen (end 0) 12 cs) (12 + length (join cs)))
@@ -58,8 +59,8 @@ module _ (most : ℕ) (s m q : List ℕ) (t y u len : ℕ) (l : Stands s m q len
 
   pub unread-agrees : (st : St) (micro : ℕ) → Says y u (chosen.Unread micro) → kind y u ≡ chosen.Unread micro
       → Reads most s m q t y u len l (readBody (plan st (layoutOf most (chosen.Unread micro))) 12 (drop 12 m))
-      (behind (microAt m micro) λ n at. Unread (head t y u len n) (restFrom m at))
+      (behind (microAt m micro) λ n at. Good (head t y u len n) (Unread (restFrom m at)))
   unfolding plan layoutOf stamped microAt behind pass choose
   unread-agrees st micro (inl (e, d)) kd = rw d (free-agree most s m q t y u len l (end 0) shows (plainly e (kd ∙ ap chosen.Unread d)))
   unread-agrees st micro (inr (e, d)) kd =
-      rw (d, behind-pass m (λ n a. Unread (head t y u len n) (restFrom m a))) (free-agree most s m q t y u len l (stamped 4 (end 0)) shows (finely e (kd ∙ ap chosen.Unread d)))
+      rw (d, behind-pass m (λ n a. Good (head t y u len n) (Unread (restFrom m a)))) (free-agree most s m q t y u len l (stamped 4 (end 0)) shows (finely e (kd ∙ ap chosen.Unread d)))

@@ -1,13 +1,9 @@
 -- Reading what a writer wrote shows the very values that it was given. Assumes nothing.
-use mathlib.Core.Path.{_≡_, refl, sym, _∙_}
-use mathlib.Core.Bool.{Bool, true, false}
+use mathlib.Core.Path.{_≡_, sym, _∙_}
 use mathlib.Core.List.{List, _++_}
-use Prim.Native.Nat.{ℕ, zero, suc, _+_}
-use native.Mathlib.Omega.{arith}
-use lib.Dec.{ltb}
+use Prim.Native.Nat.{ℕ, suc}
 use lib.ListN.{length, drop}
 use Rattle.form.specs.Octets.{Octets}
-use Rattle.form.specs.Words.{choose}
 use Rattle.form.specs.Shape.{Layout, St, plan}
 use Rattle.form.specs.Put.{Given, octets, recordRefusal}
 use Rattle.form.specs.Gives.{OctetsIn, Shaped}
@@ -18,8 +14,9 @@ use Rattle.shown.specs.declared.Table.{Table}
 use Rattle.reading.specs.Answer.{place}
 use Rattle.reading.specs.One.{readOne}
 use Rattle.writing.specs.Only.{writer, only}
-use Rattle.writing.specs.Verdict.{written, holds, answers, leaves}
-use Rattle.writing.specs.declared.Written.the-variants as one
+use Rattle.room_spec.specs.declared.Written.the-variants as room
+use Rattle.room_laws.proofs.Room as laws
+use Rattle.writing.specs.Verdict.{answers, leaves}
 use Rattle.round_trip.specs.Tells.{Tells}
 use Rattle.round_trip.specs.Again.{again}
 use Rattle.round_trip.specs.Agrees.{writerOf}
@@ -37,21 +34,8 @@ pub record Wrote (l : ℕ → ℕ → Layout) (st : St) (g : Given) (out : List 
   pub size : k ≡ length (octets g)
   pub left : leaves l st g out ≡ octets g ++ drop (length (octets g)) out
 
-pub wrote : (l : ℕ → ℕ → Layout) (st : St) (g : Given) (out : List ℕ) (k : ℕ) → answers l st g out ≡ one.Octets k → Wrote l st g out k
-unfolding written holds choose
-wrote l st g out k e = let z = go (recordRefusal l st g) e in record { refused = z .0; size = z .1; left = z .2 }
-  where
-    xs : List ℕ
-    xs = octets g
-
-    room : (b : Bool) → choose b (one.Refused 15) (one.Octets (length xs)) ≡ one.Octets k
-        → (_≡_ {A = ℕ} 0 0) × (k ≡ length xs) × (choose b out (xs ++ drop (length xs) out) ≡ xs ++ drop (length xs) out)
-    room true d = let z : _≡_ {A = ℕ} 0 1 = cc in absurd (omega arith)
-    room false d = (refl, (cc), refl)
-
-    go : (r : ℕ) → written r xs out ≡ one.Octets k → (r ≡ 0) × (k ≡ length xs) × (holds r xs out ≡ xs ++ drop (length xs) out)
-    go zero d = room (ltb (length out) (length xs)) d
-    go (suc n) d = let z : _≡_ {A = ℕ} 0 1 = cc in absurd (omega arith)
+pub wrote : (l : ℕ → ℕ → Layout) (st : St) (g : Given) (out : List ℕ) (k : ℕ) → answers l st g out ≡ room.Octets k → Wrote l st g out k
+wrote l st g out k e = let z = laws.wrote (recordRefusal l st g) 0 (octets g) out k e in record { refused = z .0; size = z .1; left = z .2 }
 
 -- ---- and the values that it was given
 
@@ -92,7 +76,7 @@ module _ (most : ℕ) (t : Table) (st : St) (tells : Tells t st) (n a p : ℕ) (
         (same-given h g (back .rec) (back .same .gives) (back .given) (formed-again s (readOne most t s) ∙ rw (w, y, u) (sym (fair .form))), back .ends)
 
   -- in the buffer that the writer left
-  pub shows-written : (out : List ℕ) (k : ℕ) → Octets out → answers own st g out ≡ one.Octets k
+  pub shows-written : (out : List ℕ) (k : ℕ) → Octets out → answers own st g out ≡ room.Octets k
       → (again (leaves own st g out) (readOne most t (leaves own st g out)) ≡ g) × (place (readOne most t (leaves own st g out)) ≡ k)
   shows-written out k oc e =
       let w = wrote own st g out k e in

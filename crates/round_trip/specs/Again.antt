@@ -6,7 +6,9 @@ use Rattle.form.specs.Put.{Given, nothing}
 use Rattle.page.specs.Layout.{finer}
 use Rattle.shown.specs.declared.Header.{Header}
 use Rattle.shown.specs.declared.Shown.{Shown}
-use Rattle.shown.specs.declared.Shown.the-variants.{Nothing, Refused, Unread, TableDump, PeerTable, Rib, RibGeneric, Change, Message}
+use Rattle.shown.specs.declared.Shown.the-variants.{Nothing, Refused, Good}
+use Rattle.shown.specs.declared.Body.{Body}
+use Rattle.shown.specs.declared.Body.the-variants.{Unread, TableDump, PeerTable, Rib, RibGeneric, Change, Message}
 use Rattle.reading.specs.Answer.{within}
 use Rattle.writing.specs.declared.Time.{Time}
 use Rattle.writing.specs.declared.Time.the-variants.{Seconds, Micro}
@@ -20,15 +22,21 @@ abbrev pub blank : Given
 blank = record { stamp = 0; type = 0; sub = 0; values = []; tail = nothing }
 
 -- s are the octets that were read
+abbrev pub againAs : List ℕ → Header → Body → Given
+againAs s h (Unread c) = unreadGiven (clock h) (h .ty) (h .subtype) (within s c)
+againAs s h (TableDump r) =
+    tableDumpGiven (h .timestamp) (h .subtype) (r .view) (r .sequence) (within s (r .prefix)) (r .bits) (r .status) (r .originated) (within s (r .address)) (r .peer)
+    (within s (r .attributes))
+againAs s h (PeerTable p) = peerTableGiven (h .timestamp) (p .collector) (within s (p .name)) (p .count) (within s (p .peers))
+againAs s h (Rib r) = ribGiven (h .timestamp) (h .subtype) (r .sequence) (r .bits) (within s (r .prefix)) (r .count) (within s (r .entries))
+againAs s h (RibGeneric f r) =
+    ribGenericGiven (h .timestamp) (r .sequence) (f .family) (f .safi) (r .bits) (within s (r .prefix)) (r .count) (within s (r .entries))
+againAs s h (Change e w) =
+    changeGiven (clock h) (h .subtype) (e .peer) (e .local) (e .interface) (e .family) (within s (e .theirs)) (within s (e .ours)) (w .old) (w .new)
+againAs s h (Message e b) =
+    messageGiven (clock h) (h .subtype) (e .peer) (e .local) (e .interface) (e .family) (within s (e .theirs)) (within s (e .ours)) (within s (b .message))
+
 abbrev pub again : List ℕ → Shown → Given
 again s Nothing = blank
 again s (Refused n p) = blank
-again s (Unread h c) = unreadGiven (clock h) (h .ty) (h .subtype) (within s c)
-again s (TableDump h r) =
-    tableDumpGiven (h .timestamp) (h .subtype) (r .view) (r .sequence) (within s (r .prefix)) (r .bits) (r .status) (r .originated) (within s (r .address)) (r .peer)
-    (within s (r .attributes))
-again s (PeerTable h p) = peerTableGiven (h .timestamp) (p .collector) (within s (p .name)) (p .count) (within s (p .peers))
-again s (Rib h r) = ribGiven (h .timestamp) (h .subtype) (r .sequence) (r .bits) (within s (r .prefix)) (r .count) (within s (r .entries))
-again s (RibGeneric h f i r) = ribGenericGiven (h .timestamp) (r .sequence) f i (r .bits) (within s (r .prefix)) (r .count) (within s (r .entries))
-again s (Change h e o n) = changeGiven (clock h) (h .subtype) (e .peer) (e .local) (e .interface) (e .family) (within s (e .theirs)) (within s (e .ours)) o n
-again s (Message h e b k) = messageGiven (clock h) (h .subtype) (e .peer) (e .local) (e .interface) (e .family) (within s (e .theirs)) (within s (e .ours)) (within s b)
+again s (Good h b) = againAs s h b

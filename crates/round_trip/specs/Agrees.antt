@@ -12,35 +12,28 @@ use Rattle.form.specs.Gives.{Gives}
 use Rattle.page.specs.Layout.{layout, kind}
 use Rattle.shown.specs.declared.Header.{Header}
 use Rattle.shown.specs.declared.Shown.{Shown}
-use Rattle.shown.specs.declared.Shown.the-variants.{Nothing, Refused, Unread, TableDump, PeerTable, Rib, RibGeneric, Change, Message}
-use Rattle.reading.specs.Answer.{fault, place, time, within}
+use Rattle.shown.specs.declared.Shown.the-variants.{Nothing, Refused, Good}
+use Rattle.shown.specs.declared.Body.{Body}
+use Rattle.shown.specs.declared.Body.the-variants.{Unread, TableDump, PeerTable, Rib, RibGeneric, Change, Message}
+use Rattle.reading.specs.Answer.{fault, place, headerOf, time, within}
 use Rattle.writing.specs.Times.{microOf}
 use Rattle.writing.specs.Only.{tableDumps, peerTables, ribs, genericRibs, changes, messages, unreads, writer}
 use Rattle.round_trip.specs.Again.{clock, again}
 
--- zeros where no record is shown
-abbrev pub headerOf : Shown → Header
-headerOf Nothing = record { timestamp = 0; ty = 0; subtype = 0; length = 0; microseconds = 0 }
-headerOf (Refused n p) = record { timestamp = 0; ty = 0; subtype = 0; length = 0; microseconds = 0 }
-headerOf (Unread h c) = h
-headerOf (TableDump h r) = h
-headerOf (PeerTable h p) = h
-headerOf (Rib h r) = h
-headerOf (RibGeneric h f i r) = h
-headerOf (Change h e o n) = h
-headerOf (Message h e b k) = h
-
 -- whose writer takes it back; 0 is none
+abbrev pub writerAs : Header → Body → ℕ
+writerAs h (Unread c) = unreads (microOf (clock h))
+writerAs h (TableDump r) = tableDumps
+writerAs h (PeerTable p) = peerTables
+writerAs h (Rib r) = ribs
+writerAs h (RibGeneric f r) = genericRibs
+writerAs h (Change e w) = changes
+writerAs h (Message e b) = messages
+
 abbrev pub writerOf : Shown → ℕ
 writerOf Nothing = 0
 writerOf (Refused n p) = 0
-writerOf (Unread h c) = unreads (microOf (clock h))
-writerOf (TableDump h r) = tableDumps
-writerOf (PeerTable h p) = peerTables
-writerOf (Rib h r) = ribs
-writerOf (RibGeneric h f i r) = genericRibs
-writerOf (Change h e o n) = changes
-writerOf (Message h e b k) = messages
+writerOf (Good h b) = writerAs h b
 
 -- a record's header
 abbrev pub headOf : (most : ℕ) → Rec → Header
@@ -48,16 +41,19 @@ headOf most r =
     record { timestamp = r .stamp; ty = r .type; subtype = r .sub; length = length (spell (r .body)); microseconds = micros (layout most (r .type) (r .sub)) (r .body) }
 
 -- the type shown of a BGP message is the octet behind its marker and length
+abbrev pub TypedBody : List ℕ → Body → Type 0
+TypedBody s (Unread c) = Unit
+TypedBody s (TableDump r) = Unit
+TypedBody s (PeerTable p) = Unit
+TypedBody s (Rib r) = Unit
+TypedBody s (RibGeneric f r) = Unit
+TypedBody s (Change e w) = Unit
+TypedBody s (Message e b) = b .kind ≡ be (take 1 (drop 18 (within s (b .message))))
+
 abbrev pub Typed : List ℕ → Shown → Type 0
 Typed s Nothing = Unit
 Typed s (Refused n p) = Unit
-Typed s (Unread h c) = Unit
-Typed s (TableDump h r) = Unit
-Typed s (PeerTable h p) = Unit
-Typed s (Rib h r) = Unit
-Typed s (RibGeneric h f i r) = Unit
-Typed s (Change h e o n) = Unit
-Typed s (Message h e b k) = k ≡ be (take 1 (drop 18 (within s b)))
+Typed s (Good h b) = TypedBody s b
 
 -- what is shown of a record: no fault, where it ends, its header and time, its kind, and its very fields
 pub record Same (most : ℕ) (s : List ℕ) (r : Rec) (x : Shown) : Type 0 where

@@ -53,22 +53,41 @@ pub struct Routes {
     pub entries: Part,
 }
 
+// Subtype 6: family and SAFI.
+pub struct Scope {
+    pub family: u64,
+    pub safi: u64,
+}
+
+pub struct States {
+    pub old: u64,
+    pub new: u64,
+}
+
+// A BGP message, from its marker on, and its type octet.
+pub struct Bgp {
+    pub message: Part,
+    pub kind: u64,
+}
+
+// What stands behind a good record's header and microseconds.
+pub enum Body {
+    // its contents
+    Unread(Part),
+    TableDump(Route),
+    PeerTable(Peers),
+    Rib(Routes),
+    RibGeneric(Scope, Routes),
+    Change(Session, States),
+    Message(Session, Bgp),
+}
+
 pub enum Shown {
     // no octets at all
     Nothing,
     // a fault's number, and where the field that failed starts
     Refused(u8, usize),
-    // its contents
-    Unread(Header, Part),
-    TableDump(Header, Route),
-    PeerTable(Header, Peers),
-    Rib(Header, Routes),
-    // family and SAFI
-    RibGeneric(Header, u64, u64, Routes),
-    // old and new state
-    Change(Header, Session, u64, u64),
-    // the BGP message, and its type
-    Message(Header, Session, Part, u64),
+    Good(Header, Body),
 }
 
 // One entry of a RIB record: peer index, originated time, attributes, and where the next entry starts.

@@ -5,14 +5,16 @@ ghost use Rattle.form.specs.Fmt.{end};
 ghost use Rattle.form.specs.Pass.{whole};
 ghost use Rattle.page.specs.Rib.{tiling};
 ghost use Rattle.page.specs.TableDump.{tableDump, tableDumpRest};
-ghost use Rattle.shown.specs.Told.{routeOf, routeRest};
-ghost use Rattle.shown.specs.Told as show;
-ghost use Rattle.shown.specs.declared.Shown.the-variants.{TableDump, Refused};
+ghost use Rattle.shown.specs.Fields.{routeOf, routeRest};
+ghost use Rattle.shown.specs.Fields as show;
+ghost use Rattle.shown.specs.declared.Shown.the-variants.{Good, Refused};
+ghost use Rattle.shown.specs.declared.Body.the-variants.{TableDump};
 use copy::part;
 use flow::Num;
 use flow::Room;
 use flow::field;
 use flow::skip;
+use shown::Body;
 use shown::Header;
 use shown::Part;
 use shown::Route;
@@ -32,7 +34,7 @@ fn attributes_at(
     address: Part,
     peer: u64,
 ) -> Shown
-    ensures { λ r. ⌜ r ≡ whole (λ fs. TableDump h (routeOf view sequence prefix bits status originated address peer fs)) Refused (tiling n (end 0)) (now (m .entry)) at ⌝ }
+    ensures { λ r. ⌜ r ≡ whole (λ fs. Good h (TableDump (routeOf view sequence prefix bits status originated address peer fs))) Refused (tiling n (end 0)) (now (m .entry)) at ⌝ }
 {
     let Room::To(e) = skip(m, at, n) else {
         return Shown::Refused(5, at);
@@ -41,20 +43,18 @@ fn attributes_at(
         if e < m.len() {
             return Shown::Refused(6, e);
         }
-        return Shown::TableDump(
-            h,
-            Route {
-                view,
-                sequence,
-                prefix,
-                bits,
-                status,
-                originated,
-                address,
-                peer,
-                attributes: Part { at, size: n },
-            },
-        );
+        let route = Route {
+            view,
+            sequence,
+            prefix,
+            bits,
+            status,
+            originated,
+            address,
+            peer,
+            attributes: Part { at, size: n },
+        };
+        return Shown::Good(h, Body::TableDump(route));
     }
     Shown::Refused(11, at)
 }
@@ -70,7 +70,7 @@ fn rest_at(
     prefix: Part,
     bits: u64,
 ) -> Shown
-    ensures { λ r. ⌜ r ≡ whole (λ fs. TableDump h (routeRest view sequence prefix bits fs)) Refused (tableDumpRest size) (now (m .entry)) at ⌝ }
+    ensures { λ r. ⌜ r ≡ whole (λ fs. Good h (TableDump (routeRest view sequence prefix bits fs))) Refused (tableDumpRest size) (now (m .entry)) at ⌝ }
 {
     let Num::Value(status, a) = field(m, at, 1) else {
         return Shown::Refused(5, at);

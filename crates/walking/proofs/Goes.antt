@@ -4,7 +4,7 @@ use mathlib.Core.Logic.{⊎-elim}
 use mathlib.Core.List.{List}
 use Prim.Native.Nat.{ℕ, _+_, _≤_, _<_}
 use native.Mathlib.Omega.{arith}
-use native.Mathlib.Nat.{eq-or-lt-of-le}
+use native.Mathlib.Nat.{add-zero, eq-or-lt-of-le}
 use lib.ListN.{length, take, drop, length-drop}
 use lib.Seq.{drop-length, take-at}
 use Rattle.form.specs.Octets.{Octets}
@@ -12,30 +12,31 @@ use Rattle.form.specs.Fmt.{Out, bad, good}
 use Rattle.form.specs.Body.{spell}
 use Rattle.form.specs.Shape.{St}
 use Rattle.form.specs.Record.{Rec, write, size, readRec, Valid, next, timeOf}
-use Rattle.form.specs.Dump.{stop, before, walkFrom}
+use Rattle.form.specs.Dump.{placed, stop, before, walkFrom}
 use Rattle.form.proofs.Octets.{octets-drop}
 use Rattle.form.proofs.Fmt.{Right}
 use Rattle.form.proofs.Record.{length-write, sound-rec}
-use Rattle.form.proofs.Alike.{Alike, alike-bad, alike-good, alike-record}
+use Rattle.form.proofs.Moved.{moved, moved-record}
 use Rattle.form.proofs.Dump.{walk-end, walk-bad, walk-good, good-fits}
 use Rattle.page.specs.Layout.{layout}
+use Rattle.page.proofs.Inside.{inside}
 use Rattle.shown.specs.declared.Header.{Header}
 use Rattle.shown.specs.declared.Table.{Table}
-use Rattle.shown.specs.declared.Table.the-variants.{Holds}
 use Rattle.shown.specs.declared.Shown.{Shown}
-use Rattle.shown.specs.declared.Shown.the-variants.{Nothing, Refused, Unread, TableDump, PeerTable, Rib, RibGeneric, Change, Message}
+use Rattle.shown.specs.declared.Shown.the-variants.{Nothing, Refused, Good}
 use Rattle.reading.specs.One.{readOne}
+use Rattle.reading.specs.Answer.{tableBehind}
 use Rattle.round_trip.specs.Tells.{Tells}
 use Rattle.round_trip.specs.Agrees.{Same, Agrees, headOf}
 use Rattle.round_trip.proofs.One.{one-record}
-use Rattle.round_trip.proofs.Accepts.{no-octets}
+use Rattle.round_trip.proofs.Accepts.{no-octets, not-refused}
 use Rattle.shown.specs.Table.{tableOf}
 use Rattle.round_trip.proofs.Accepts.{tells-table}
 use Rattle.walking.specs.Steps.{stepped, stepOf, stepAt}
 use Rattle.walking.specs.declared.Item.{Item}
 use Rattle.walking.specs.declared.Step.{Step}
 use Rattle.walking.specs.declared.Step.the-variants.{End, Fault, Record}
-use Rattle.walking.proofs.Table.{other-kind, peer-table}
+use Rattle.walking.proofs.Table.{tells-behind}
 
 -- ---- what a step says of the walk from there on
 
@@ -45,9 +46,11 @@ module _ (most : ℕ) (d : List ℕ) (at : ℕ) (st : St) where
     pub here : at ≡ length d
     pub walk : walkFrom (layout most) st at (drop at d) ≡ stop 0 at
 
-  -- no record stands there, and the walk stops with that fault
+  -- no record stands there, its fault is in the field at `off` of it, and the walk stops with that fault
   pub record AtFault (n p : ℕ) : Type 0 where
-    pub here : p ≡ at
+    pub off : ℕ
+    pub read : readRec (layout most) st 0 (drop at d) ≡ bad n off
+    pub here : p ≡ placed at (at + off)
     pub number : n ≡ 0 → ⊥
     pub walk : walkFrom (layout most) st at (drop at d) ≡ stop n p
 
@@ -84,17 +87,19 @@ module _ (most : ℕ) (d : List ℕ) (oc : Octets d) (at : ℕ) (bound : at ≤ 
       rw z (record { here = e; walk = rw e (walk-end (layout most) st d) })
 
   module _ (more : at < length d) where
-    faulty : (n p : ℕ) → Right (Valid (layout most) st) write s (bad n p) → Alike {A = Rec} (bad n p) (readRec (layout most) st at s) → AtFault most d at st n at
-    faulty n p r a =
-        let b = alike-bad n p (readRec (layout most) st at s) a in
-        record { here = refl; number = r; walk = walk-bad (layout most) st at d n (b .0) oc more (b .1) }
+    -- the same is read at 0 and at `at`, but for the place
+    moves : (o : Out Rec) → readRec (layout most) st 0 s ≡ o → readRec (layout most) st at s ≡ moved at o
+    moves o e = rw (← e) (rw add-zero at (moved-record (layout most) (inside most) st at 0 s))
+
+    faulty : (n p : ℕ) → readRec (layout most) st 0 s ≡ bad n p → Right (Valid (layout most) st) write s (bad n p) → AtFault most d at st n (placed at (at + p))
+    faulty n p e r = record { off = p; read = e; here = refl; number = r; walk = walk-bad (layout most) st at d n (at + p) oc more (moves (bad n p) e) }
 
     -- a record with this header, and this table told behind it
-    past : (r : Rec) (q : List ℕ) → Right (Valid (layout most) st) write s (good r q) → Alike (good r q) (readRec (layout most) st at s) → (h : Header) → h ≡ headOf most r → (u : Table)
+    past : (r : Rec) (q : List ℕ) → readRec (layout most) st 0 s ≡ good r q → Right (Valid (layout most) st) write s (good r q) → (h : Header) → h ≡ headOf most r → (u : Table)
         → Tells u (next (layout most) r st) → Goes most d at st (stepped at h u)
     unfolding timeOf
-    past r q w a h e u after =
-        let g : readRec (layout most) st at s ≡ good r q = alike-good r q (readRec (layout most) st at s) a in
+    past r q a w h e u after =
+        let g : readRec (layout most) st at s ≡ good r q = moves (good r q) a in
         let k : at + size r ≤ length d = good-fits (layout most) st at d r q oc bound g in
         rw e (record {
           rec = r;
@@ -112,27 +117,21 @@ module _ (most : ℕ) (d : List ℕ) (oc : Octets d) (at : ℕ) (bound : at ≤ 
           walk = walk-good (layout most) st at d r q oc more g;
         })
 
-    shown : (r : Rec) (q : List ℕ) → Right (Valid (layout most) st) write s (good r q) → Alike (good r q) (readRec (layout most) st at s) → (x : Shown) → Same most s r x
+    shown : (r : Rec) (q : List ℕ) → readRec (layout most) st 0 s ≡ good r q → Right (Valid (layout most) st) write s (good r q) → (x : Shown) → Same most s r x
         → Goes most d at st (stepOf t at x)
-    shown r q w a Nothing m = absurd (omega (arith, m .ends))
-    shown r q w a (Refused n p) m = absurd (omega (arith, m .ends))
-    shown r q w a (Unread h c) m = past r q w a h (m .headed) t (other-kind most s r (Unread h c) t st m (λ e. omega arith) tells)
-    shown r q w a (TableDump h f) m = past r q w a h (m .headed) t (other-kind most s r (TableDump h f) t st m (λ e. omega arith) tells)
-    shown r q w a (PeerTable h f) m = past r q w a h (m .headed) (Holds (f .count)) (peer-table most r st (f .count) _ (sym (m .whose)) (m .gives .tail))
-    shown r q w a (Rib h f) m = past r q w a h (m .headed) t (other-kind most s r (Rib h f) t st m (λ e. omega arith) tells)
-    shown r q w a (RibGeneric h f i l) m = past r q w a h (m .headed) t (other-kind most s r (RibGeneric h f i l) t st m (λ e. omega arith) tells)
-    shown r q w a (Change h f o n) m = past r q w a h (m .headed) t (other-kind most s r (Change h f o n) t st m (λ e. omega arith) tells)
-    shown r q w a (Message h f b k) m = past r q w a h (m .headed) t (other-kind most s r (Message h f b k) t st m (λ e. omega arith) tells)
+    shown r q a w Nothing m = absurd (omega (arith, m .ends))
+    shown r q a w (Refused n p) m = absurd (not-refused most st s r n p (w .0) m)
+    shown r q a w (Good h b) m = past r q a w h (m .headed) (tableBehind t b) (tells-behind most s r h b t st m tells)
 
-    found : (o : Out Rec) → Right (Valid (layout most) st) write s o → Alike o (readRec (layout most) st at s) → (x : Shown) → Agrees most s o x → Goes most d at st (stepOf t at x)
-    found (bad n p) w a x e = rw e (faulty n p w a)
-    found (good r q) w a x m = shown r q w a x m
+    found : (o : Out Rec) → readRec (layout most) st 0 s ≡ o → Right (Valid (layout most) st) write s o → (x : Shown) → Agrees most s o x → Goes most d at st (stepOf t at x)
+    found (bad n p) a w x e = rw e (faulty n p a w)
+    found (good r q) a w x m = shown r q a w x m
 
     goes-on : Goes most d at st (stepOf t at (readOne most t s))
     goes-on =
         let os : Octets s = octets-drop at d oc in
         let l : 0 < length s = rw length-drop (omega arith) in
-        found (readRec (layout most) st 0 s) (sound-rec (layout most) st 0 s os) (alike-record (layout most) st 0 at s) (readOne most t s) (one-record most t st tells s os l)
+        found (readRec (layout most) st 0 s) refl (sound-rec (layout most) st 0 s os) (readOne most t s) (one-record most t st tells s os l)
 
   pub goes : Goes most d at st (stepAt most t d at)
   unfolding stepAt

@@ -5,11 +5,10 @@ use lib.ListN.{drop}
 use Rattle.form.specs.Dump.{placed}
 use Rattle.shown.specs.declared.Header.{Header}
 use Rattle.shown.specs.declared.Table.{Table}
-use Rattle.shown.specs.declared.Table.the-variants.{Holds}
 use Rattle.shown.specs.declared.Shown.{Shown}
-use Rattle.shown.specs.declared.Shown.the-variants.{Nothing, Refused, Unread, TableDump, PeerTable, Rib, RibGeneric, Change, Message}
+use Rattle.shown.specs.declared.Shown.the-variants.{Nothing, Refused, Good}
 use Rattle.reading.specs.One.{readOne}
-use Rattle.reading.specs.Answer.{end, time}
+use Rattle.reading.specs.Answer.{end, time, tableBehind}
 use Rattle.walking.specs.declared.Item.{Item}
 use Rattle.walking.specs.declared.Step.{Step}
 use Rattle.walking.specs.declared.Step.the-variants.{End, Fault, Record}
@@ -18,17 +17,11 @@ use Rattle.walking.specs.declared.Step.the-variants.{End, Fault, Record}
 abbrev pub stepped : (at : ℕ) → Header → Table → Step
 stepped at h t = Record (record { at = at; time = time h; ty = h .ty; subtype = h .subtype; length = h .length; next = at + end h }) t
 
--- only a peer table changes the table in force
+-- reading one record counts places from its start
 abbrev pub stepOf : Table → (at : ℕ) → Shown → Step
 stepOf t at Nothing = End
 stepOf t at (Refused n p) = Fault n (placed at (at + p))
-stepOf t at (Unread h c) = stepped at h t
-stepOf t at (TableDump h r) = stepped at h t
-stepOf t at (PeerTable h p) = stepped at h (Holds (p .count))
-stepOf t at (Rib h r) = stepped at h t
-stepOf t at (RibGeneric h f s r) = stepped at h t
-stepOf t at (Change h s o n) = stepped at h t
-stepOf t at (Message h s b k) = stepped at h t
+stepOf t at (Good h b) = stepped at h (tableBehind t b)
 
 -- `most` is the longest BGP message
 unfoldable pub stepAt : (most : ℕ) → Table → List ℕ → (at : ℕ) → Step

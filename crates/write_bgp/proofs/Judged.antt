@@ -14,25 +14,25 @@ use Rattle.form.specs.Put.{orElse, sized, refusal}
 use Rattle.form.specs.Words.{choose, num, skip, must, area, within}
 use Rattle.page.specs.Names.{marker, bgpLength, bgpType, bgpRest}
 use Rattle.page.specs.Bgp4mp.{message, messageRest}
-use Rattle.shown.specs.Told.{told}
+use Rattle.shown.specs.Fields.{messageOf}
 use Rattle.shown.specs.declared.Header.{Header}
 use Rattle.shown.specs.declared.Session.{Session}
 use Rattle.shown.specs.declared.Shown.{Shown}
 use Rattle.shown.specs.declared.Shown.the-variants.{Refused}
 use Rattle.writing.specs.Givens.{bgpValues}
-use Rattle.writing.proofs.Items.{refusedWith}
+use Rattle.reading.specs.Answer.{fault}
 
 -- n is the number of the refusal, or 0
 unfoldable Judged : ℕ → Shown → Type 0
-Judged n x = refusedWith x ≡ n
+Judged n x = fault x ≡ n
 
 -- ---- the reader's number, by the message's length and its length field
 
 abbrev ends : (long k : ℕ) → ℕ
 ends long k = cond (ltb long (19 + k)) 5 (cond (ltb (19 + k) long) 6 0)
 
-abbrev number : (long n : ℕ) → ℕ
-number long n = cond (ltb long 16) 5 (cond (ltb long 18) 5 (cond (ltb long 19) 5 (cond (within 19 n 4096) (ends long (n - 19)) 10)))
+abbrev number : (longest long n : ℕ) → ℕ
+number longest long n = cond (ltb long 16) 5 (cond (ltb long 18) 5 (cond (ltb long 19) 5 (cond (within 19 n longest) (ends long (n - 19)) 10)))
 
 said : (k p : ℕ) → Judged k (Refused k p)
 unfolding Judged
@@ -43,29 +43,29 @@ either true m n x y p q = p
 either false m n x y p q = q
 
 -- behind the type octet: `to` is told where the message ends
-rest : (to : List Seen → ℕ → ℕ → Shown) (n : ℕ) (b : List ℕ) → ((fs : List Seen) (a p : ℕ) → Judged (cond (ltb a (length b)) 6 0) (to fs a p))
-    → Judged (cond (within 19 n 4096) (ends (length b) (n - 19)) 10) (pass to Refused (messageRest 4096 n) b 19)
+rest : (to : List Seen → ℕ → ℕ → Shown) (longest n : ℕ) (b : List ℕ) → ((fs : List Seen) (a p : ℕ) → Judged (cond (ltb a (length b)) 6 0) (to fs a p))
+    → Judged (cond (within 19 n longest) (ends (length b) (n - 19)) 10) (pass to Refused (messageRest longest n) b 19)
 unfolding pass messageRest must area
-rest to n b h = go (within 19 n 4096)
+rest to longest n b h = go (within 19 n longest)
   where
     go : (w : Bool) → Judged (cond w (ends (length b) (n - 19)) 10) (pass to Refused (test (cond w 0 10) 3 (area bgpRest (n - 19) 3 (end (n - 16)))) b 19)
     go true = either (ltb (length b) (19 + (n - 19))) _ _ _ _ (said 5 _) (h _ (19 + (n - 19)) _)
     go false = said 10 _
 
-last : (b : Bool) (p : ℕ) (h : Header) (s : Session) (fs : List Seen) → Judged (cond b 6 0) (choose b (Refused 6 p) (told h s fs))
+last : (b : Bool) (p : ℕ) (h : Header) (s : Session) (fs : List Seen) → Judged (cond b 6 0) (choose b (Refused 6 p) (messageOf h s fs))
 unfolding choose Judged
 last true p h s fs = refl
 last false p h s fs = refl
 
-reader : (h : Header) (s : Session) (b : List ℕ) → Judged (number (length b) (be (take 2 (drop 16 b)))) (whole (told h s) Refused (message 4096) b 0)
+reader : (longest : ℕ) (h : Header) (s : Session) (b : List ℕ) → Judged (number longest (length b) (be (take 2 (drop 16 b)))) (whole (messageOf h s) Refused (message longest) b 0)
 unfolding pass message num skip
-reader h s b =
+reader longest h s b =
     let n : ℕ = be (take 2 (drop 16 b)) in
     let seen : List Seen → List Seen = λ fs. note marker 0 16 16 (be (take 16 b)) (note bgpLength 16 2 18 n (note bgpType 18 1 19 (be (take 1 (drop 18 b))) fs)) in
     either (ltb (length b) 16) _ _ _ _ (said 5 _)
     (either (ltb (length b) 18) _ _ _ _ (said 5 _)
     (either (ltb (length b) 19) _ _ _ _ (said 5 _)
-    (rest (λ fs a p. choose (ltb a (length b)) (Refused 6 p) (told h s (seen fs))) n b (λ fs a p. last (ltb a (length b)) p h s (seen fs)))))
+    (rest (λ fs a p. choose (ltb a (length b)) (Refused 6 p) (messageOf h s (seen fs))) longest n b (λ fs a p. last (ltb a (length b)) p h s (seen fs)))))
 
 -- ---- the writer's
 
@@ -99,9 +99,9 @@ ending long k h = go (ltb long (19 + k)) (ltb (19 + k) long) refl refl
         let r : long - 19 ≤ k = omega arith in
         sym (rw (le-ltb (long - 19) k s, le-ltb k (long - 19) r))
 
-writes : (b : List ℕ) → number (length b) (be (take 2 (drop 16 b))) ≡ refusal (message 4096) (bgpValues b)
+writes : (longest : ℕ) (b : List ℕ) → number longest (length b) (be (take 2 (drop 16 b))) ≡ refusal (message longest) (bgpValues b)
 unfolding refusal message messageRest num skip must area
-writes b = go (ltb (length b) 16) (ltb (length b) 18) (ltb (length b) 19) (within 19 n 4096) refl refl refl
+writes longest b = go (ltb (length b) 16) (ltb (length b) 18) (ltb (length b) 19) (within 19 n longest) refl refl refl
   where
     n : ℕ
     n = be (take 2 (drop 16 b))
@@ -120,6 +120,6 @@ writes b = go (ltb (length b) 16) (ltb (length b) 18) (ltb (length b) 19) (withi
         ending (length b) (n - 19) h
         ∙ sym (rw (there 16 0 b (ltb-false (length b) 16 p), there 2 16 b (ltb-false (length b) 18 q), there 1 18 b h, length-drop))
 
-pub judged : (h : Header) (s : Session) (b : List ℕ) (x : Shown) → x ≡ whole (told h s) Refused (message 4096) b 0 → refusedWith x ≡ refusal (message 4096) (bgpValues b)
+pub judged : (longest : ℕ) (h : Header) (s : Session) (b : List ℕ) (x : Shown) → x ≡ whole (messageOf h s) Refused (message longest) b 0 → fault x ≡ refusal (message longest) (bgpValues b)
 unfolding Judged
-judged h s b x e = ap refusedWith e ∙ reader h s b ∙ writes b
+judged longest h s b x e = ap fault e ∙ reader longest h s b ∙ writes longest b

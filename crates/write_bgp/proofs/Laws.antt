@@ -1,6 +1,6 @@
 -- State changes and BGP messages as a writer has them: their kinds, and their octets. Assumes nothing.
 use mathlib.Core.Path.{_≡_, refl, sym, ap, _∙_}
-use mathlib.Core.List.{List, [], _∷_, _++_, append-nil}
+use mathlib.Core.List.{List, [], _∷_, _++_, append-assoc, append-nil}
 use Prim.Native.Nat.{ℕ, _+_, _≤_}
 use native.Mathlib.Omega.{arith}
 use lib.ListN.{length, take, drop, length-append, take-append-drop}
@@ -11,7 +11,6 @@ use Rattle.form.specs.Fmt.{join}
 use Rattle.form.specs.Put.{Value, lay, message, large}
 use Rattle.form.specs.Words.{choose}
 use Rattle.form.proofs.Octets.{length-toBe}
-use Rattle.page.specs.Bgp4mp as page
 use Rattle.page.specs.Layout.{kind, kind16}
 use Rattle.page.specs.declared.Kind.{Kind}
 use Rattle.page.specs.declared.Kind.the-variants.{Refused, Unread, TableDump, PeerTable, Rib, RibGeneric, Change, Message}
@@ -25,6 +24,7 @@ use Rattle.writing.specs.declared.Time.{Time}
 use Rattle.writing.specs.declared.Time.the-variants.{Seconds, Micro}
 use Rattle.writing.proofs.Answers.{micros-long}
 use Rattle.writing.proofs.Laid.{both}
+use Rattle.write_bgp.specs.Opening.{openingValues, openingSize}
 
 -- ---- the kinds of types 16 and 17
 
@@ -84,22 +84,25 @@ pieces b =
     split : (n : ℕ) (l : List ℕ) → take n l ++ drop n l ≡ l
     split n l = rw take-append-drop
 
--- the microseconds, the session, and values behind it
-abbrev behind : (t : Time) (s p l i f : ℕ) (theirs ours : List ℕ) → List Value → List ℕ
-behind t s p l i f theirs ours vs = message (bgpGiven t s (sessionValues (asOctets (kind (bgp4mp t) s)) p l i f theirs ours vs))
+module _ (t : Time) (w p l i f : ℕ) (theirs ours : List ℕ) where
+  -- the microseconds and the session
+  pub opened-long : length (join (lay (openingValues t w p l i f theirs ours))) ≡ openingSize t w theirs ours
+  opened-long =
+      let a = micros-long t in
+      let b = opening-long w p l i f theirs ours in
+      rw (both (micros t) (sessionValues w p l i f theirs ours []), length-append (join (lay (micros t))) (opening w p l i f theirs ours)) (omega arith)
 
-pub behind-long : (t : Time) (s p l i f : ℕ) (theirs ours : List ℕ) (vs : List Value)
-    → length (behind t s p l i f theirs ours vs) ≡ microOf t + (asOctets (kind (bgp4mp t) s) + (asOctets (kind (bgp4mp t) s) + (4 + (length theirs + length ours)))) + length (join (lay vs))
-behind-long t s p l i f theirs ours vs =
-    let w : ℕ = asOctets (kind (bgp4mp t) s) in
-    let a = micros-long t in
-    let b = opening-long w p l i f theirs ours in
-    rw (
-      append-nil (join (lay (micros t ++ sessionValues w p l i f theirs ours vs))),
-      both (micros t) (sessionValues w p l i f theirs ours vs),
-      both (sessionValues w p l i f theirs ours []) vs,
-      length-append (join (lay (micros t))) (opening w p l i f theirs ours ++ join (lay vs)),
-      length-append (opening w p l i f theirs ours) (join (lay vs)),
-      a,
-      b,
-    ) (omega arith)
+  module _ (vs : List Value) where
+    -- and values behind them
+    pub behind : openingValues t w p l i f theirs ours ++ vs ≡ micros t ++ sessionValues w p l i f theirs ours vs
+    behind = append-assoc (micros t) (sessionValues w p l i f theirs ours []) vs
+
+    pub behind-long : (s : ℕ) → openingSize t w theirs ours + length (join (lay vs)) ≡ length (message (bgpGiven t s (sessionValues w p l i f theirs ours vs)))
+    behind-long s =
+        rw (
+          append-nil (join (lay (micros t ++ sessionValues w p l i f theirs ours vs))),
+          ← behind,
+          both (openingValues t w p l i f theirs ours) vs,
+          length-append (join (lay (openingValues t w p l i f theirs ours))) (join (lay vs)),
+          opened-long,
+        )

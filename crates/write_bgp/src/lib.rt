@@ -1,30 +1,32 @@
 // Writing types 16 and 17: state changes and BGP messages.
 ghost use mathlib.Core.Path.{_≡_};
 ghost use mathlib.Core.List.{List, [], _∷_};
-ghost use Prim.Native.Nat.{_+_, _≤_};
+ghost use Prim.Native.Nat.{ℕ, _+_, _≤_};
 ghost use lib.ListN.{length};
 ghost use Rattle.form.specs.Fmt.{Fmt, join};
 ghost use Rattle.form.specs.Put.{Value, bytes, refusal, lay, fieldsRefusal};
 ghost use Rattle.form.specs.Shape.{noTable};
-ghost use Rattle.page.specs.Bgp4mp.{session, addresses, stateChange, message};
+ghost use Rattle.page.specs.Bgp4mp.{longestMessage, session, addresses, stateChange, message};
 ghost use Rattle.copy.specs.Over.{over};
 ghost use Rattle.page.specs.Layout.{kind};
 ghost use Rattle.writing.specs.Times.{bgp4mp};
 ghost use Rattle.writing.specs.Only.{onlySub, changes, messages, asOctets};
 ghost use Rattle.writing.specs.Givens.{sessionValues, stateValues, bgpValues, changeGiven, messageGiven};
-ghost use Rattle.writing.specs.Verdict.{answers, leaves};
+ghost use Rattle.writing.specs.Verdict.{Writes, capped};
+ghost use Rattle.write_bgp.specs.Opening.{openingValues, openingSize};
 use bgp::message_at;
 use copy::put_bytes;
 use flow::large;
 use kind::kind_16;
 use num::put_number;
 use page::Kind;
+use page::LONGEST_MESSAGE;
+use room_spec::Written;
 use shown::Header;
 use shown::Part;
 use shown::Session;
 use shown::Shown;
 use writing::Time;
-use writing::Written;
 use writing::add;
 use writing::bgp_type;
 use writing::head_refusal;
@@ -59,9 +61,9 @@ fn states_refusal(old: u64, new: u64) -> u8
     0
 }
 
-// A BGP message is judged by the reader, as it stands.
-fn message_refusal(b: &[u8]) -> u8
-    ensures { λ r. ⌜ r ≡ refusal (message 4096) (bgpValues (now (b .entry))) ⌝ }
+// A BGP message of at most `longest` octets is judged by the reader, as it stands.
+fn message_refusal(longest: u64, b: &[u8]) -> u8
+    ensures { λ r. ⌜ r ≡ refusal (message longest) (bgpValues (now (b .entry))) ⌝ }
 {
     let none = Part { at: 0, size: 0 };
     let h = Header {
@@ -79,7 +81,7 @@ fn message_refusal(b: &[u8]) -> u8
         theirs: none,
         ours: none,
     };
-    let Shown::Refused(n, _) = message_at(b, 0, 4096, h, s) else {
+    let Shown::Refused(n, _) = message_at(b, 0, longest, h, s) else {
         return 0;
     };
     n
@@ -139,6 +141,7 @@ fn session_refusal(
     7
 }
 
+// The number for all but the Length and the room.
 fn change_refusal(
     time: Time,
     subtype: u64,
@@ -151,7 +154,7 @@ fn change_refusal(
     old: u64,
     new: u64,
 ) -> u8
-    ensures { λ r. ⌜ r ≡ fieldsRefusal (onlySub changes 4096) noTable (changeGiven time subtype peer local interface family (now (theirs .entry)) (now (ours .entry)) old new) ⌝ }
+    ensures { λ r. ⌜ ((longest : ℕ) → r ≡ fieldsRefusal (onlySub changes longest) noTable (changeGiven time subtype peer local interface family (now (theirs .entry)) (now (ours .entry)) old new)) ⌝ }
 {
     let n = head_refusal(seconds(time), subtype);
     if 0 < n {
@@ -167,7 +170,9 @@ fn change_refusal(
     )
 }
 
+// The number for all but the Length and the room.
 fn bgp_refusal(
+    longest: u64,
     time: Time,
     subtype: u64,
     peer: u64,
@@ -178,7 +183,7 @@ fn bgp_refusal(
     ours: &[u8],
     message: &[u8],
 ) -> u8
-    ensures { λ r. ⌜ r ≡ fieldsRefusal (onlySub messages 4096) noTable (messageGiven time subtype peer local interface family (now (theirs .entry)) (now (ours .entry)) (now (message .entry))) ⌝ }
+    ensures { λ r. ⌜ r ≡ fieldsRefusal (onlySub messages longest) noTable (messageGiven time subtype peer local interface family (now (theirs .entry)) (now (ours .entry)) (now (message .entry))) ⌝ }
 {
     let n = head_refusal(seconds(time), subtype);
     if 0 < n {
@@ -187,7 +192,7 @@ fn bgp_refusal(
     let Kind::Message(_, width) = kind_16(micro(time), subtype) else {
         return 4;
     };
-    let rest = message_refusal(message);
+    let rest = message_refusal(longest, message);
     stamped_refusal(
         time,
         session_refusal(width, peer, local, interface, family, theirs, ours, rest),
@@ -233,6 +238,43 @@ fn width_of(time: Time, subtype: u64) -> usize
     }
 }
 
+// Octets of the microseconds and the session.
+fn opening_size(time: Time, width: usize, theirs: &[u8], ours: &[u8]) -> usize
+    requires { ⌜ width ≤ 4 ⌝ }
+    ensures { λ r. ⌜ r ≡ capped (openingSize time width (now (theirs .entry)) (now (ours .entry))) ⌝ }
+{
+    let fixed = micro(time) + 2 * width + 4;
+    add(add(fixed, theirs.len()), ours.len())
+}
+
+// Lays the microseconds and the session from 12 on; answers where the message goes on.
+fn put_opening(
+    out: &mut [u8],
+    time: Time,
+    width: usize,
+    peer: u64,
+    local: u64,
+    interface: u64,
+    family: u64,
+    theirs: &[u8],
+    ours: &[u8],
+) -> usize
+    requires { ⌜ 12 + openingSize time width (now theirs) (now ours) ≤ length (now out) ⌝ }
+    ensures { λ r. ⌜ (r ≡ 12 + openingSize time width (now (theirs .entry)) (now (ours .entry))) × (now (out .exit) ≡ over (now (out .entry)) 12 (join (lay (openingValues time width peer local interface family (now (theirs .entry)) (now (ours .entry)))))) ⌝ }
+{
+    let a = put_micros(out, time);
+    put_session(out, a, width, peer, local, interface, family, theirs, ours)
+}
+
+// Lays the states from `at` on.
+fn put_states(out: &mut [u8], at: usize, old: u64, new: u64)
+    requires { ⌜ at + 4 ≤ length (now out) ⌝ }
+    ensures { λ _. ⌜ now (out .exit) ≡ over (now (out .entry)) at (join (lay (stateValues old new))) ⌝ }
+{
+    put_number(out, at, 2, old);
+    put_number(out, at + 2, 2, new);
+}
+
 // A state change, of type 16, or 17 with microseconds.
 pub fn write_change(
     time: Time,
@@ -247,7 +289,7 @@ pub fn write_change(
     new: u64,
     out: &mut [u8],
 ) -> Written
-    ensures { λ r. ⌜ (r ≡ answers (onlySub changes 4096) noTable (changeGiven time subtype peer local interface family (now (theirs .entry)) (now (ours .entry)) old new) (now (out .entry))) × (now (out .exit) ≡ leaves (onlySub changes 4096) noTable (changeGiven time subtype peer local interface family (now (theirs .entry)) (now (ours .entry)) old new) (now (out .entry))) ⌝ }
+    ensures { λ r. ⌜ Writes (onlySub changes longestMessage) noTable (changeGiven time subtype peer local interface family (now (theirs .entry)) (now (ours .entry)) old new) (now (out .entry)) r (now (out .exit)) ⌝ }
 {
     let n = change_refusal(
         time,
@@ -261,17 +303,55 @@ pub fn write_change(
         old,
         new,
     );
-    let width = width_of(time, subtype);
-    let size = add(add(micro(time) + 2 * width + 8, theirs.len()), ours.len());
+    let w = width_of(time, subtype);
+    let size = add(opening_size(time, w, theirs, ours), 4);
     let v = verdict(n, size, out.len());
     let Written::Octets(_) = v else {
         return v;
     };
     put_head(out, seconds(time), bgp_type(time), subtype, size as u64);
-    let a = put_micros(out, time);
-    let b = put_session(out, a, width, peer, local, interface, family, theirs, ours);
-    put_number(out, b, 2, old);
-    put_number(out, b + 2, 2, new);
+    let at = put_opening(out, time, w, peer, local, interface, family, theirs, ours);
+    put_states(out, at, old, new);
+    v
+}
+
+// A BGP message of at most `longest` octets.
+fn write_up_to(
+    longest: u64,
+    time: Time,
+    subtype: u64,
+    peer: u64,
+    local: u64,
+    interface: u64,
+    family: u64,
+    theirs: &[u8],
+    ours: &[u8],
+    message: &[u8],
+    out: &mut [u8],
+) -> Written
+    ensures { λ r. ⌜ Writes (onlySub messages longest) noTable (messageGiven time subtype peer local interface family (now (theirs .entry)) (now (ours .entry)) (now (message .entry))) (now (out .entry)) r (now (out .exit)) ⌝ }
+{
+    let n = bgp_refusal(
+        longest,
+        time,
+        subtype,
+        peer,
+        local,
+        interface,
+        family,
+        theirs,
+        ours,
+        message,
+    );
+    let w = width_of(time, subtype);
+    let size = add(opening_size(time, w, theirs, ours), message.len());
+    let v = verdict(n, size, out.len());
+    let Written::Octets(_) = v else {
+        return v;
+    };
+    put_head(out, seconds(time), bgp_type(time), subtype, size as u64);
+    let at = put_opening(out, time, w, peer, local, interface, family, theirs, ours);
+    put_bytes(message, out, at);
     v
 }
 
@@ -288,9 +368,10 @@ pub fn write_message(
     message: &[u8],
     out: &mut [u8],
 ) -> Written
-    ensures { λ r. ⌜ (r ≡ answers (onlySub messages 4096) noTable (messageGiven time subtype peer local interface family (now (theirs .entry)) (now (ours .entry)) (now (message .entry))) (now (out .entry))) × (now (out .exit) ≡ leaves (onlySub messages 4096) noTable (messageGiven time subtype peer local interface family (now (theirs .entry)) (now (ours .entry)) (now (message .entry))) (now (out .entry))) ⌝ }
+    ensures { λ r. ⌜ Writes (onlySub messages longestMessage) noTable (messageGiven time subtype peer local interface family (now (theirs .entry)) (now (ours .entry)) (now (message .entry))) (now (out .entry)) r (now (out .exit)) ⌝ }
 {
-    let n = bgp_refusal(
+    write_up_to(
+        LONGEST_MESSAGE,
         time,
         subtype,
         peer,
@@ -300,19 +381,6 @@ pub fn write_message(
         theirs,
         ours,
         message,
-    );
-    let width = width_of(time, subtype);
-    let size = add(
-        add(add(micro(time) + 2 * width + 4, theirs.len()), ours.len()),
-        message.len(),
-    );
-    let v = verdict(n, size, out.len());
-    let Written::Octets(_) = v else {
-        return v;
-    };
-    put_head(out, seconds(time), bgp_type(time), subtype, size as u64);
-    let a = put_micros(out, time);
-    let b = put_session(out, a, width, peer, local, interface, family, theirs, ours);
-    put_bytes(message, out, b);
-    v
+        out,
+    )
 }

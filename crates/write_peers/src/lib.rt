@@ -1,20 +1,23 @@
 // Writing type 13, subtype 1: the peer table.
 ghost use mathlib.Core.Path.{_≡_};
-ghost use mathlib.Core.List.{[], _∷_};
-ghost use Rattle.form.specs.Fmt.{end};
+ghost use mathlib.Core.List.{[], _∷_, _++_};
+ghost use Prim.Native.Nat.{ℕ, _+_, _≤_};
 ghost use lib.ListN.{length};
-ghost use Rattle.form.specs.Put.{digits, bytes, items, refusal, itemsRefusal, fieldsRefusal};
+ghost use Rattle.copy.specs.Over.{over};
+ghost use Rattle.page.specs.Bgp4mp.{longestMessage};
+ghost use Rattle.form.specs.Fmt.{end, join};
+ghost use Rattle.form.specs.Put.{digits, bytes, items, refusal, lay, tailed, itemsRefusal, fieldsRefusal};
 ghost use Rattle.form.specs.Shape.{noTable};
 ghost use Rattle.page.specs.Peers.{peer, tableHead};
 ghost use Rattle.writing.specs.Only.{onlySub, peerTables};
 ghost use Rattle.writing.specs.Givens.{peerTableGiven};
-ghost use Rattle.writing.specs.Verdict.{answers, leaves};
+ghost use Rattle.writing.specs.Verdict.{Writes};
 use copy::put_bytes;
 use flow::large;
 use num::put_number;
 use peers::peers_at;
+use room_spec::Written;
 use shown::Shown;
-use writing::Written;
 use writing::add;
 use writing::put_head;
 use writing::verdict;
@@ -44,8 +47,9 @@ fn front_refusal(collector: u64, name: &[u8]) -> u8
     0
 }
 
+// The number for all but the Length and the room.
 fn table_refusal(timestamp: u64, collector: u64, name: &[u8], count: u64, peers: &[u8]) -> u8
-    ensures { λ r. ⌜ r ≡ fieldsRefusal (onlySub peerTables 4096) noTable (peerTableGiven timestamp collector (now (name .entry)) count (now (peers .entry))) ⌝ }
+    ensures { λ r. ⌜ ((longest : ℕ) → r ≡ fieldsRefusal (onlySub peerTables longest) noTable (peerTableGiven timestamp collector (now (name .entry)) count (now (peers .entry)))) ⌝ }
 {
     if large(timestamp, 4) {
         return 6;
@@ -57,6 +61,19 @@ fn table_refusal(timestamp: u64, collector: u64, name: &[u8], count: u64, peers:
     peers_refusal(peers, count)
 }
 
+// Lays the message from 12 on.
+fn put_table(out: &mut [u8], collector: u64, name: &[u8], count: u64, peers: &[u8])
+    requires { ⌜ 20 + length (now name) + length (now peers) ≤ length (now out) ⌝ }
+    ensures { λ _. ⌜ now (out .exit) ≡ over (now (out .entry)) 12 (join (lay (digits 4 collector ∷ digits 2 (length (now (name .entry))) ∷ bytes (now (name .entry)) ∷ [])) ++ tailed (items count (now (peers .entry)))) ⌝ }
+{
+    let a = 18 + name.len();
+    put_number(out, 12, 4, collector);
+    put_number(out, 16, 2, name.len() as u64);
+    put_bytes(name, out, 18);
+    put_number(out, a, 2, count);
+    put_bytes(peers, out, a + 2);
+}
+
 // A peer table.
 pub fn write_peer_table(
     timestamp: u64,
@@ -66,7 +83,7 @@ pub fn write_peer_table(
     peers: &[u8],
     out: &mut [u8],
 ) -> Written
-    ensures { λ r. ⌜ (r ≡ answers (onlySub peerTables 4096) noTable (peerTableGiven timestamp collector (now (name .entry)) count (now (peers .entry))) (now (out .entry))) × (now (out .exit) ≡ leaves (onlySub peerTables 4096) noTable (peerTableGiven timestamp collector (now (name .entry)) count (now (peers .entry))) (now (out .entry))) ⌝ }
+    ensures { λ r. ⌜ Writes (onlySub peerTables longestMessage) noTable (peerTableGiven timestamp collector (now (name .entry)) count (now (peers .entry))) (now (out .entry)) r (now (out .exit)) ⌝ }
 {
     let n = table_refusal(timestamp, collector, name, count, peers);
     let size = add(add(8, name.len()), peers.len());
@@ -74,13 +91,7 @@ pub fn write_peer_table(
     let Written::Octets(_) = v else {
         return v;
     };
-    let a = 18 + name.len();
-    let b = a + 2;
     put_head(out, timestamp, 13, 1, size as u64);
-    put_number(out, 12, 4, collector);
-    put_number(out, 16, 2, name.len() as u64);
-    put_bytes(name, out, 18);
-    put_number(out, a, 2, count);
-    put_bytes(peers, out, b);
+    put_table(out, collector, name, count, peers);
     v
 }

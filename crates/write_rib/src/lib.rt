@@ -1,25 +1,26 @@
 // Writing type 13, subtypes 2 to 6: RIB records.
 ghost use mathlib.Core.Path.{_≡_};
-ghost use mathlib.Core.List.{List, [], _∷_, _++_};
-ghost use Prim.Native.Nat.{_+_, _≤_};
+ghost use mathlib.Core.List.{[], _∷_, _++_};
+ghost use Prim.Native.Nat.{ℕ, _+_, _≤_};
 ghost use lib.ListN.{length};
-ghost use Rattle.form.specs.Fmt.{Fmt, end, join};
-ghost use Rattle.form.specs.Put.{Value, digits, bytes, items, refusal, lay, tailed, itemsRefusal, fieldsRefusal};
+ghost use Rattle.form.specs.Fmt.{end, join};
+ghost use Rattle.page.specs.Bgp4mp.{longestMessage};
+ghost use Rattle.form.specs.Put.{digits, bytes, items, refusal, lay, tailed, itemsRefusal, fieldsRefusal};
 ghost use Rattle.page.specs.Rib.{entry, prefix, genericHead};
 ghost use Rattle.shown.specs.Table.{tableOf};
 ghost use Rattle.copy.specs.Over.{over};
 ghost use Rattle.writing.specs.Only.{onlySub, ribs, genericRibs};
 ghost use Rattle.writing.specs.Givens.{ribGiven, ribGenericGiven};
-ghost use Rattle.writing.specs.Verdict.{answers, leaves};
+ghost use Rattle.writing.specs.Verdict.{Writes};
 use copy::put_bytes;
 use flow::large;
 use kind::kind_13;
 use num::put_number;
 use page::Kind;
 use rib::entries_at;
+use room_spec::Written;
 use shown::Shown;
 use shown::Table;
-use writing::Written;
 use writing::add;
 use writing::head_refusal;
 use writing::put_head;
@@ -59,6 +60,7 @@ fn prefix_refusal(most: u64, bits: u64, octets: &[u8]) -> u8
     0
 }
 
+// The number for all but the Length and the room.
 fn rib_refusal(
     timestamp: u64,
     subtype: u64,
@@ -69,7 +71,7 @@ fn rib_refusal(
     count: u64,
     entries: &[u8],
 ) -> u8
-    ensures { λ r. ⌜ r ≡ fieldsRefusal (onlySub ribs 4096) (tableOf told) (ribGiven timestamp subtype sequence bits (now (prefix .entry)) count (now (entries .entry))) ⌝ }
+    ensures { λ r. ⌜ ((longest : ℕ) → r ≡ fieldsRefusal (onlySub ribs longest) (tableOf told) (ribGiven timestamp subtype sequence bits (now (prefix .entry)) count (now (entries .entry)))) ⌝ }
 {
     let n = head_refusal(timestamp, subtype);
     if 0 < n {
@@ -122,6 +124,7 @@ fn generic_refusal(sequence: u64, family: u64, safi: u64, bits: u64, prefix: &[u
     prefix_refusal(128, bits, prefix)
 }
 
+// The number for all but the Length and the room.
 fn generic_rib_refusal(
     timestamp: u64,
     told: Table,
@@ -133,7 +136,7 @@ fn generic_rib_refusal(
     count: u64,
     entries: &[u8],
 ) -> u8
-    ensures { λ r. ⌜ r ≡ fieldsRefusal (onlySub genericRibs 4096) (tableOf told) (ribGenericGiven timestamp sequence family safi bits (now (prefix .entry)) count (now (entries .entry))) ⌝ }
+    ensures { λ r. ⌜ ((longest : ℕ) → r ≡ fieldsRefusal (onlySub genericRibs longest) (tableOf told) (ribGenericGiven timestamp sequence family safi bits (now (prefix .entry)) count (now (entries .entry)))) ⌝ }
 {
     let n = head_refusal(timestamp, 6);
     if 0 < n {
@@ -174,7 +177,7 @@ pub fn write_rib(
     entries: &[u8],
     out: &mut [u8],
 ) -> Written
-    ensures { λ r. ⌜ (r ≡ answers (onlySub ribs 4096) (tableOf told) (ribGiven timestamp subtype sequence bits (now (prefix .entry)) count (now (entries .entry))) (now (out .entry))) × (now (out .exit) ≡ leaves (onlySub ribs 4096) (tableOf told) (ribGiven timestamp subtype sequence bits (now (prefix .entry)) count (now (entries .entry))) (now (out .entry))) ⌝ }
+    ensures { λ r. ⌜ Writes (onlySub ribs longestMessage) (tableOf told) (ribGiven timestamp subtype sequence bits (now (prefix .entry)) count (now (entries .entry))) (now (out .entry)) r (now (out .exit)) ⌝ }
 {
     let n = rib_refusal(
         timestamp,
@@ -210,7 +213,7 @@ pub fn write_rib_generic(
     entries: &[u8],
     out: &mut [u8],
 ) -> Written
-    ensures { λ r. ⌜ (r ≡ answers (onlySub genericRibs 4096) (tableOf told) (ribGenericGiven timestamp sequence family safi bits (now (prefix .entry)) count (now (entries .entry))) (now (out .entry))) × (now (out .exit) ≡ leaves (onlySub genericRibs 4096) (tableOf told) (ribGenericGiven timestamp sequence family safi bits (now (prefix .entry)) count (now (entries .entry))) (now (out .entry))) ⌝ }
+    ensures { λ r. ⌜ Writes (onlySub genericRibs longestMessage) (tableOf told) (ribGenericGiven timestamp sequence family safi bits (now (prefix .entry)) count (now (entries .entry))) (now (out .entry)) r (now (out .exit)) ⌝ }
 {
     let n = generic_rib_refusal(
         timestamp,

@@ -1,22 +1,23 @@
 // Writing type 12.
 ghost use mathlib.Core.Path.{_≡_};
-ghost use mathlib.Core.List.{List, [], _∷_};
-ghost use Prim.Native.Nat.{_+_, _≤_};
+ghost use mathlib.Core.List.{[], _∷_};
+ghost use Prim.Native.Nat.{ℕ, _+_, _≤_};
 ghost use lib.ListN.{length};
 ghost use Rattle.form.specs.Fmt.{join};
+ghost use Rattle.page.specs.Bgp4mp.{longestMessage};
 ghost use Rattle.form.specs.Put.{digits, bytes, refusal, lay, fieldsRefusal};
 ghost use Rattle.form.specs.Shape.{noTable};
 ghost use Rattle.page.specs.TableDump.{tableDump, tableDumpRest};
 ghost use Rattle.copy.specs.Over.{over};
 ghost use Rattle.writing.specs.Only.{onlySub, tableDumps};
 ghost use Rattle.writing.specs.Givens.{routeValues, tableDumpGiven};
-ghost use Rattle.writing.specs.Verdict.{answers, leaves};
+ghost use Rattle.writing.specs.Verdict.{Writes};
 use copy::put_bytes;
 use flow::large;
 use kind::kind_12;
 use num::put_number;
 use page::Kind;
-use writing::Written;
+use room_spec::Written;
 use writing::add;
 use writing::head_refusal;
 use writing::put_head;
@@ -93,6 +94,7 @@ fn route_refusal(
     rest_refusal(size, status, originated, address, peer, attributes)
 }
 
+// The number for all but the Length and the room.
 fn dump_refusal(
     timestamp: u64,
     subtype: u64,
@@ -106,7 +108,7 @@ fn dump_refusal(
     peer: u64,
     attributes: &[u8],
 ) -> u8
-    ensures { λ r. ⌜ r ≡ fieldsRefusal (onlySub tableDumps 4096) noTable (tableDumpGiven timestamp subtype view sequence (now (prefix .entry)) bits status originated (now (address .entry)) peer (now (attributes .entry))) ⌝ }
+    ensures { λ r. ⌜ ((longest : ℕ) → r ≡ fieldsRefusal (onlySub tableDumps longest) noTable (tableDumpGiven timestamp subtype view sequence (now (prefix .entry)) bits status originated (now (address .entry)) peer (now (attributes .entry)))) ⌝ }
 {
     let n = head_refusal(timestamp, subtype);
     if 0 < n {
@@ -180,7 +182,7 @@ pub fn write_table_dump(
     attributes: &[u8],
     out: &mut [u8],
 ) -> Written
-    ensures { λ r. ⌜ (r ≡ answers (onlySub tableDumps 4096) noTable (tableDumpGiven timestamp subtype view sequence (now (prefix .entry)) bits status originated (now (address .entry)) peer (now (attributes .entry))) (now (out .entry))) × (now (out .exit) ≡ leaves (onlySub tableDumps 4096) noTable (tableDumpGiven timestamp subtype view sequence (now (prefix .entry)) bits status originated (now (address .entry)) peer (now (attributes .entry))) (now (out .entry))) ⌝ }
+    ensures { λ r. ⌜ Writes (onlySub tableDumps longestMessage) noTable (tableDumpGiven timestamp subtype view sequence (now (prefix .entry)) bits status originated (now (address .entry)) peer (now (attributes .entry))) (now (out .entry)) r (now (out .exit)) ⌝ }
 {
     let n = dump_refusal(
         timestamp,

@@ -1,4 +1,4 @@
--- How a record whose contents are carried unread is refused. Assumes nothing.
+-- How a record whose contents are carried unread is refused.
 use mathlib.Core.Path.{_≡_, refl, sym, _∙_}
 use mathlib.Core.Bool.{false}
 use mathlib.Core.List.{List, [], _++_, append-nil}
@@ -26,22 +26,24 @@ use Rattle.writing.specs.declared.Time.{Time}
 pub other-micro : (m n : ℕ) (k : Kind) → k ≡ Unread n → (n ≡ m → ⊥) → eqb (writer k) (unreads m) ≡ false
 other-micro m n k e d = rw e (ne-eqb (7 + n) (7 + m) (λ q. d (omega arith)))
 
--- r is the kind k, as code found it
-pub not-unread : (m : ℕ) (r k : Kind) → r ≡ k → eqb (writer r) (unreads m) ≡ false → typeRefusal (layoutOf 4096 (choose (eqb (writer k) (unreads m)) k (Refused 3 4))) ≡ 3
-unfolding choose layoutOf
-not-unread m r k s e = let d = rw s at e in rw d
+module _ (longest : ℕ) where
+  -- r is the kind k, as code found it
+  pub not-unread : (m : ℕ) (r k : Kind) → r ≡ k → eqb (writer r) (unreads m) ≡ false → typeRefusal (layoutOf longest (choose (eqb (writer k) (unreads m)) k (Refused 3 4))) ≡ 3
+  unfolding choose layoutOf
+  not-unread m r k s e = let d = rw s at e in rw d
 
-pub is-unread : (m n : ℕ) (r k : Kind) → r ≡ k → r ≡ Unread n → n ≡ m → layoutOf 4096 (choose (eqb (writer k) (unreads m)) k (Refused 3 4)) ≡ layoutOf 4096 (Unread m)
-unfolding choose
-is-unread m n r k s e d = let q : k ≡ Unread n = sym s ∙ e in rw (q, d, eq-eqb (7 + m) (7 + m) refl)
+  pub is-unread : (m n : ℕ) (r k : Kind) → r ≡ k → r ≡ Unread n → n ≡ m → layoutOf longest (choose (eqb (writer k) (unreads m)) k (Refused 3 4)) ≡ layoutOf longest (Unread m)
+  unfolding choose
+  is-unread m n r k s e d = let q : k ≡ Unread n = sym s ∙ e in rw (q, d, eq-eqb (7 + m) (7 + m) refl)
 
-pub unread-typed : (m : ℕ) → typeRefusal (layoutOf 4096 (Unread m)) ≡ 0
-unfolding layoutOf
-unread-typed m = refl
+  pub unread-typed : (m : ℕ) → typeRefusal (layoutOf longest (Unread m)) ≡ 0
+  unfolding layoutOf
+  unread-typed m = refl
 
-pub unread-body : (t : Time) (r : List ℕ) (y : ℕ) → y ≡ refusal (stamped (microOf t) (end 0)) (micros t ++ []) → y ≡ bodyRefusal (plan noTable (layoutOf 4096 (Unread (microOf t)))) (micros t) (carried r)
-unfolding layoutOf plan bodyRefusal
-unread-body t r y h = rw append-nil at h
+  pub unread-body : (t : Time) (r : List ℕ) (y : ℕ) → y ≡ refusal (stamped (microOf t) (end 0)) (micros t ++ [])
+      → y ≡ bodyRefusal (plan noTable (layoutOf longest (Unread (microOf t)))) (micros t) (carried r)
+  unfolding layoutOf plan bodyRefusal
+  unread-body t r y h = rw append-nil at h
 
 pub nothing-left : 0 ≡ refusal (end 0) []
 unfolding refusal

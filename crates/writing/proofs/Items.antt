@@ -16,38 +16,22 @@ use Rattle.flow.proofs.PutRules.{is-large, not-large}
 use Rattle.form.proofs.Then.{flatly, read-times}
 use Rattle.form.proofs.Whole.{outcomeBody, whole-body}
 use Rattle.shown.specs.declared.Shown.{Shown}
-use Rattle.shown.specs.declared.Shown.the-variants.{Nothing, Refused, Unread, TableDump, PeerTable, Rib, RibGeneric, Change, Message}
+use Rattle.shown.specs.declared.Shown.the-variants.{Nothing, Refused, Good}
 use Rattle.shown.proofs.Shown.{the-type}
+use Rattle.reading.specs.Answer.{fault}
 
--- the number that a reader shows, or 0
-abbrev pub refusedWith : Shown → ℕ
-refusedWith Nothing = 0
-refusedWith (Refused n p) = n
-refusedWith (Unread h c) = 0
-refusedWith (TableDump h r) = 0
-refusedWith (PeerTable h p) = 0
-refusedWith (Rib h r) = 0
-refusedWith (RibGeneric h f s r) = 0
-refusedWith (Change h s o n) = 0
-refusedWith (Message h s b t) = 0
-
-pub not-refused : (s : Shown) → OneOf (0 ∷ 2 ∷ 3 ∷ 4 ∷ 5 ∷ 6 ∷ 7 ∷ 8 ∷ []) (tagOf the-type s) → refusedWith s ≡ 0
+-- what is not refused has no fault
+pub not-refused : (s : Shown) → OneOf (0 ∷ 2 ∷ []) (tagOf the-type s) → fault s ≡ 0
 not-refused Nothing h = refl
-not-refused (Refused n p) h = absurd (miss (0 ∷ 2 ∷ 3 ∷ 4 ∷ 5 ∷ 6 ∷ 7 ∷ 8 ∷ []) 1 tt h)
-not-refused (Unread x c) h = refl
-not-refused (TableDump x r) h = refl
-not-refused (PeerTable x p) h = refl
-not-refused (Rib x r) h = refl
-not-refused (RibGeneric x f s r) h = refl
-not-refused (Change x s o n) h = refl
-not-refused (Message x s b t) h = refl
+not-refused (Refused n p) h = absurd (miss (0 ∷ 2 ∷ []) 1 tt h)
+not-refused (Good x b) h = refl
 
 -- reading n items and nothing behind them gives the items' fault
-items-fault : (g : Fmt) (n : ℕ) (raw : List ℕ) → refusedWith (whole (λ fs. Nothing) Refused (times n g) raw 0) ≡ faultOf (readN g n 0 raw)
+items-fault : (g : Fmt) (n : ℕ) (raw : List ℕ) → fault (whole (λ fs. Nothing) Refused (times n g) raw 0) ≡ faultOf (readN g n 0 raw)
 unfolding readBody outcomeBody
-items-fault g n raw = ap refusedWith (whole-body (λ fs. Nothing) Refused (times n g) raw 0 (omega arith)) ∙ rw (read-times n g 0 raw) (go (readN g n 0 raw))
+items-fault g n raw = ap fault (whole-body (λ fs. Nothing) Refused (times n g) raw 0 (omega arith)) ∙ rw (read-times n g 0 raw) (go (readN g n 0 raw))
   where
-    go : (o : Out (List (List (List ℕ)))) → refusedWith (outcomeBody (λ fs. Nothing) Refused (times n g) 0 (bind (flatly o) (λ cs r. ended (0 + length (join cs) - overAt (times n g) cs) (plain cs) r))) ≡ faultOf o
+    go : (o : Out (List (List (List ℕ)))) → fault (outcomeBody (λ fs. Nothing) Refused (times n g) 0 (bind (flatly o) (λ cs r. ended (0 + length (join cs) - overAt (times n g) cs) (plain cs) r))) ≡ faultOf o
     go (bad m p) = refl
     go (good its []) = refl
     go (good its (x ∷ r)) = refl
@@ -57,5 +41,5 @@ pub count-large : (g : Fmt) (n : ℕ) (raw : List ℕ) (t : Bool) → t ≡ leb 
 count-large g n raw t p q = sym (rw (is-large 2 n t p q))
 
 pub items-judged : (g : Fmt) (n : ℕ) (raw : List ℕ) (t : Bool) (r : Shown) → t ≡ leb (256 ^ 2) n → t ≡ false → r ≡ whole (λ fs. Nothing) Refused (times n g) raw 0
-    → refusedWith r ≡ itemsRefusal g (items n raw)
-items-judged g n raw t r p q e = rw (not-large 2 n t p q) (ap refusedWith e ∙ items-fault g n raw)
+    → fault r ≡ itemsRefusal g (items n raw)
+items-judged g n raw t r p q e = rw (not-large 2 n t p q) (ap fault e ∙ items-fault g n raw)

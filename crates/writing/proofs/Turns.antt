@@ -68,13 +68,13 @@ not-own ts w t k e m h = ne-eqb (writer k) w (λ d. miss ts t m (rw (sym (has-ta
 
 -- ---- the header: w is the writer, k the record's kind, n the number for the header's fields
 
-module _ (most w : ℕ) (st : St) (g : Given) (k : Kind) (n : ℕ) (listed : 0 < w) (typed : large 2 (g .type) ≡ 0) (chosen : kind (g .type) (g .sub) ≡ k)
+module _ (longest w : ℕ) (st : St) (g : Given) (k : Kind) (n : ℕ) (listed : 0 < w) (typed : large 2 (g .type) ≡ 0) (chosen : kind (g .type) (g .sub) ≡ k)
     (judged : n ≡ orElse (large 4 (g .stamp)) (large 2 (g .sub))) where
   -- its own kinds, and those that it does not list, have a Type that is listed
-  own-typed : (b : Bool) (k : Kind) → eqb (writer k) w ≡ b → typeRefusal (layoutOf most (choose b k unlisted)) ≡ 0
+  own-typed : (b : Bool) (k : Kind) → eqb (writer k) w ≡ b → typeRefusal (layoutOf longest (choose b k unlisted)) ≡ 0
   unfolding layoutOf choose
   own-typed false k e = refl
-  own-typed true (Refused m p) e = let q = ne-eqb 0 w (λ z. omega arith) in let z : true ≡ false = sym e ∙ q in let y : _≡_ {A = ℕ} 0 1 = cc in absurd (omega arith)
+  own-typed true (Refused m p) e = let q = ne-eqb 0 w (λ z. omega arith) in cc
   own-typed true (Unread micro) e = refl
   own-typed true (TableDump size) e = refl
   own-typed true PeerTable e = refl
@@ -84,21 +84,21 @@ module _ (most w : ℕ) (st : St) (g : Given) (k : Kind) (n : ℕ) (listed : 0 <
   own-typed true (Message micro w) e = refl
 
   body : Kind → ℕ
-  body k = bodyRefusal (plan st (layoutOf most k)) (g .values) (g .tail)
+  body k = bodyRefusal (plan st (layoutOf longest k)) (g .values) (g .tail)
 
-  turns : (b : Bool) → eqb (writer k) w ≡ b → orElse n (body (choose b k unlisted)) ≡ fieldsRefusal (onlySub w most) st g
+  turns : (b : Bool) → eqb (writer k) w ≡ b → orElse n (body (choose b k unlisted)) ≡ fieldsRefusal (onlySub w longest) st g
   unfolding fieldsRefusal body
   turns b e = rw (judged, chosen, e, typed, own-typed b k e) (or-both (large 4 (g .stamp)) (large 2 (g .sub)) (body (choose b k unlisted)))
 
-  pub stops : 0 < n → n ≡ fieldsRefusal (onlySub w most) st g
+  pub stops : 0 < n → n ≡ fieldsRefusal (onlySub w longest) st g
   stops h = or-first n (body (choose (eqb (writer k) w) k unlisted)) h ∙ turns (eqb (writer k) w) refl
 
   -- a kind of another writer is refused with 4, whatever its fields
-  pub others : n ≤ 0 → eqb (writer k) w ≡ false → 4 ≡ fieldsRefusal (onlySub w most) st g
+  pub others : n ≤ 0 → eqb (writer k) w ≡ false → 4 ≡ fieldsRefusal (onlySub w longest) st g
   unfolding body choose layoutOf plan bodyRefusal refusal
   others h e = or-next n 4 h ∙ turns false e
 
   -- its own is laid out as the page says
-  pub owns : (r : ℕ) → n ≤ 0 → eqb (writer k) w ≡ true → r ≡ bodyRefusal (plan st (layoutOf most k)) (g .values) (g .tail) → r ≡ fieldsRefusal (onlySub w most) st g
+  pub owns : (r : ℕ) → n ≤ 0 → eqb (writer k) w ≡ true → r ≡ bodyRefusal (plan st (layoutOf longest k)) (g .values) (g .tail) → r ≡ fieldsRefusal (onlySub w longest) st g
   unfolding body choose
   owns r h e d = d ∙ or-next n (body k) h ∙ turns true e

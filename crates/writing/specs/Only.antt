@@ -41,14 +41,14 @@ writer RibGeneric = genericRibs
 writer (Change micro w) = changes
 writer (Message micro w) = messages
 
--- the layouts of one writer
-abbrev pub only : (writes : ℕ) (other : Kind) (most type sub : ℕ) → Layout
-only n other most type sub = layoutOf most (choose (eqb (writer (kind type sub)) n) (kind type sub) other)
+-- the layouts of one writer; `longest` is the longest BGP message
+abbrev pub only : (writes : ℕ) (other : Kind) (longest type sub : ℕ) → Layout
+only n other longest type sub = layoutOf longest (choose (eqb (writer (kind type sub)) n) (kind type sub) other)
 
-abbrev pub onlySub : (writes most type sub : ℕ) → Layout
+abbrev pub onlySub : (writes longest type sub : ℕ) → Layout
 onlySub n = only n unlisted
 
-abbrev pub onlyType : (writes most type sub : ℕ) → Layout
+abbrev pub onlyType : (writes longest type sub : ℕ) → Layout
 onlyType n = only n (Refused 3 4)
 
 -- octets of an AS number in a session; 0 where there is none

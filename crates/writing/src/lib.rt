@@ -13,17 +13,12 @@ ghost use Rattle.writing.specs.Verdict.{capped, verdictOf};
 ghost use Rattle.writing.specs.Times.{stampOf, microOf, micros, bgp4mp};
 use flow::large;
 use num::put_number;
+use room_spec::Written;
 
 // A record's time: a Timestamp, or one with microseconds.
 pub enum Time {
     Seconds(u64),
     Micro(u64, u64),
-}
-
-// How many octets were written, or the number of the refusal. The place is 0 in both cases.
-pub enum Written {
-    Octets(usize),
-    Refused(u8),
 }
 
 pub fn seconds(t: Time) -> u64
@@ -99,13 +94,13 @@ pub fn verdict(refused: u8, size: usize, room: usize) -> Written
     ensures { λ r. ⌜ r ≡ verdictOf refused size room ⌝ }
 {
     if 0 < refused {
-        return Written::Refused(refused);
+        return Written::Refused(refused, 0);
     }
     if 4294967295 < size {
-        return Written::Refused(6);
+        return Written::Refused(6, 0);
     }
     if room < 12 + size {
-        return Written::Refused(15);
+        return Written::Refused(15, 0);
     }
     Written::Octets(12 + size)
 }

@@ -1,12 +1,33 @@
--- `accept::accept` meets its contract. Assumes nothing.
-use Rattle.accept.specs.Sure.{microOf}
-use Rattle.accept.specs.declared.Accepted.the-variants as answer
+-- `accept::accept` meets its contract.
+use mathlib.Core.Path.{_≡_}
+use Rattle.page.specs.Layout.{kind}
+use Rattle.page.specs.declared.Kind.{Kind}
+use Rattle.reading.specs.One.{shownAs, wholeRecord}
+use Rattle.accept.specs.Sure.{Sure, microOf}
+use Rattle.accept.specs.declared.Accepted.{Accepted}
+use Rattle.accept.specs.declared.Accepted.the-variants.{Record}
 use native.Mathlib.Omega.{arith}
 use borrow.Author.Tests.{leb-true}
 use Rattle.accept.proofs.Leaves.{by-kind, kind-12, kind-13, kind-session, kind-unread, kind-late, if-sure, unread-leaves}
 use borrow.Author.Needs.{needs}
 use Rattle.accept.proofs.accept.Statement.{statement}
 use Rattle.accept.proofs.accept.Tie as tie
+
+-- the state in which the function was called, from where type and subtype are read
+abbrev start : tie.After-number2 → tie.Start
+start c = c .before .before .before
+
+-- where they were read of a record that has a session
+abbrev session-read : tie.After-session → tie.After-number2
+session-read c = c .before .before .before .before .before
+
+-- the answer for the layout that type and subtype choose is the record's
+leaf : (c : tie.After-number2) (k : Kind) (r : Accepted)
+    → let a = start c .args in
+    kind (c .before .number .result) (c .number2 .result) ≡ k
+    → Sure (a .m .now) (a .t) (shownAs (a .longest) (a .t) (a .m .now) k) r
+    → Sure (a .m .now) (a .t) (wholeRecord (a .longest) (a .t) (a .m .now)) r
+leaf c k r e s = let a = start c .args in by-kind (a .longest) (a .m .now) (a .t) _ _ k r (c .before .number .ensures .0) (c .number2 .ensures .0) e s
 
 number-requires : tie.Need-number-requires
 number-requires c κs = search needs
@@ -40,47 +61,36 @@ record-if-requires-3 c κs = search needs
 
 returns : tie.Need-returns
 returns c =
-    let q = c .before .before .before in
-    let a = q .before .before .args in
-    let ty = q .number .ensures .0 in
-    let sub = c .before .before .number2 .ensures .0 in
-    by-kind (a .m .now) (a .t) _ _ _ (c .table-or-rib .result) ty sub (kind-13 _ _ (c .before .match .keys1)) (c .table-or-rib .ensures)
+    let q = c .before .before in
+    leaf q _ (c .table-or-rib .result) (kind-13 _ _ (c .before .match .keys1)) (c .table-or-rib .ensures (start q .args .longest))
 
 returns-2 : tie.Need-returns-2
 returns-2 c =
-    let q = c .before .before .before .before in
-    let a = q .before .before .args in
-    let ty = q .number .ensures .0 in
-    let sub = c .before .before .before .number2 .ensures .0 in
-    let sure = if-sure _ (a .t) _ _ (c .before .route .ensures (a .t)) in
-    by-kind (a .m .now) (a .t) _ _ _ (c .record-if .result) ty sub (kind-12 _ _ (c .before .before .match .keys2)) (rw (c .record-if .ensures) sure)
+    let q = c .before .before .before in
+    let a = start q .args in
+    let sure = if-sure _ (a .t) _ _ (c .before .route .ensures (a .longest) (a .t)) in
+    leaf q _ (c .record-if .result) (kind-12 _ _ (c .before .before .match .keys2)) (rw (c .record-if .ensures) sure)
 
 returns-3 : tie.Need-returns-3
 returns-3 c =
-    let q = c .before .before in
-    let a = q .before .before .args in
-    let ty = q .number .ensures .0 in
-    let sub = c .before .number2 .ensures .0 in
-    by-kind (a .m .now) (a .t) _ _ _ answer.Record ty sub (kind-unread _ _ (c .match .keys3)) (unread-leaves (a .m .now) (a .t) 0 (q .before .before .pre))
+    let q = c .before in
+    let a = start q .args in
+    leaf q _ Record (kind-unread _ _ (c .match .keys3)) (unread-leaves (a .longest) (a .m .now) (a .t) 0 (start q .pre))
 
 returns-4 : tie.Need-returns-4
 returns-4 c =
-    let q = c .before .before .before in
-    let a = q .before .before .args in
-    let ty = q .number .ensures .0 in
-    let sub = c .before .before .number2 .ensures .0 in
-    let sure = if-sure (a .m .now) (a .t) _ _ (λ e. unread-leaves (a .m .now) (a .t) 4 (leb-true 16 _ e)) in
-    by-kind (a .m .now) (a .t) _ _ _ (c .record-if2 .result) ty sub (kind-late _ _ (c .before .match .keys4)) (rw (c .record-if2 .ensures) sure)
+    let q = c .before .before in
+    let a = start q .args in
+    let sure = if-sure (a .m .now) (a .t) _ _ (λ e. unread-leaves (a .longest) (a .m .now) (a .t) 4 (leb-true 16 _ e)) in
+    leaf q _ (c .record-if2 .result) (kind-late _ _ (c .before .match .keys4)) (rw (c .record-if2 .ensures) sure)
 
 returns-5 : tie.Need-returns-5
 returns-5 c =
-    let q = c .before .before .before .before .before .before .before in
-    let a = q .before .before .args in
-    let ty = q .number .ensures .0 in
-    let sub = c .before .before .before .before .before .before .number2 .ensures .0 in
+    let q = session-read (c .before) in
+    let a = start q .args in
     let micro = c .before .before .micro-of .ensures .0 in
-    let sure = if-sure (a .m .now) (a .t) _ _ (c .before .session .ensures (a .t) (microOf (q .number .result)) (rw micro)) in
-    by-kind (a .m .now) (a .t) (q .number .result) _ _ (c .record-if3 .result) ty sub (kind-session _ _ (omega arith) (omega arith)) (rw (c .record-if3 .ensures) sure)
+    let sure = if-sure (a .m .now) (a .t) _ _ (c .before .session .ensures (a .t) (microOf (q .before .number .result)) (omega arith)) in
+    leaf q _ (c .record-if3 .result) (kind-session (q .before .number .result) _ (omega arith) (omega arith)) (rw (c .record-if3 .ensures) sure)
 
 returns-6 : tie.Need-returns-6
 returns-6 c = search needs

@@ -1,4 +1,4 @@
--- `accept::change` meets its contract. Assumes nothing.
+-- `accept::change` meets its contract.
 use native.Mathlib.Omega.{arith}
 use Rattle.page.specs.Bgp4mp.{stateChange}
 use Rattle.accept.proofs.Runs.{never}
@@ -6,6 +6,10 @@ use Rattle.accept.proofs.Fields.{change-runs}
 use borrow.Author.Needs.{needs}
 use Rattle.accept.proofs.change.Statement.{statement}
 use Rattle.accept.proofs.change.Tie as tie
+
+-- where the session's end was read, from its first state
+abbrev ended : tie.After-state → tie.After-session-end
+ended c = c .before .before .before .before
 
 session-end-requires : tie.Need-session-end-requires
 session-end-requires c κs = search needs
@@ -37,7 +41,7 @@ state-requires-2 c κs = search needs
 returns-3 : tie.Need-returns-3
 returns-3 c =
     let q = c .before .before .before in
-    let session = q .before .before .before .before .session-end .ensures .1 in
+    let session = ended q .session-end .ensures .1 in
     let old = rw (q .before .number .ensures .0) at (q .state .ensures (c .before .before .if3 .taken)) in
     λ e.
     let new = rw (c .before .number2 .ensures .0) at (c .state2 .ensures e) in

@@ -1,4 +1,4 @@
--- `accept::entries` meets its contract. Assumes nothing.
+-- `accept::entries` meets its contract.
 use Prim.Native.Nat.{_+_, _-_, _≤_}
 use mathlib.Core.Path.{_≡_, sym, _∙_}
 use native.Mathlib.Omega.{arith}
@@ -18,6 +18,19 @@ Inv-loop m from entry-count peers last at₀ left₀ at left = (at ≤ length m)
 
 abbrev μ-loop : tie.MeasureT-loop
 μ-loop m from entry-count peers last at₀ left₀ at left = left
+
+-- back from the entry's tiling: its length, its index, the turn, the call
+abbrev sized : tie.After-tile Inv-loop μ-loop → tie.After-number2 Inv-loop μ-loop
+sized c = c .before .before .before
+
+abbrev indexed : tie.After-number2 Inv-loop μ-loop → tie.After-number Inv-loop μ-loop
+indexed c = c .before .before
+
+abbrev turn : tie.After-number Inv-loop μ-loop → tie.At-loop Inv-loop μ-loop
+turn c = c .before .before .before
+
+abbrev start : tie.At-loop Inv-loop μ-loop → tie.Start Inv-loop μ-loop
+start c = c .before .before .before
 
 returns : tie.Need-returns Inv-loop μ-loop
 returns c = never
@@ -72,12 +85,13 @@ loop-less c = search needs
 
 loop-again : tie.Need-loop-again Inv-loop μ-loop
 loop-again c =
-    let k = c .before .before .before .before .before .before .before .before .before in
-    let a = k .before .before .before .args in
+    let n = sized (c .before) in
+    let k = turn (indexed n) in
+    let a = start k .args in
     let i = k .loop .at in
-    let index = c .before .before .before .before .before .before .number .ensures .0 in
-    let size = c .before .before .before .before .number2 .ensures .0 in
-    let next = i + 8 + c .before .before .before .before .number2 .result in
+    let index = indexed n .number .ensures .0 in
+    let size = n .number2 .ensures .0 in
+    let next = i + 8 + n .number2 .result in
     let tiled = sym (c .before .tile .ensures) ∙ c .if5 .taken in
     let r = entry-runs (a .m .now) (a .peers) i next (next - (i + 8)) (omega arith) (omega arith) (omega arith) (omega arith) (omega arith) tiled in
     (search needs, λ h. k .loop .inv .1 (one-item _ _ _ _ _ _ (omega arith) r h))

@@ -1,4 +1,4 @@
--- `accept::message` meets its contract. Assumes nothing.
+-- `accept::message` meets its contract.
 use native.Mathlib.Omega.{arith}
 use borrow.Author.Tests.{leb-true}
 use Rattle.page.specs.Bgp4mp.{message}
@@ -7,6 +7,10 @@ use Rattle.accept.proofs.Fields.{message-runs}
 use borrow.Author.Needs.{needs}
 use Rattle.accept.proofs.message.Statement.{statement}
 use Rattle.accept.proofs.message.Tie as tie
+
+-- where the session's end was read
+abbrev ended : tie.After-number → tie.After-session-end
+ended c = c .before .before .before
 
 session-end-requires : tie.Need-session-end-requires
 session-end-requires c κs = search needs
@@ -34,9 +38,9 @@ returns-3 c = never
 
 returns-4 : tie.Need-returns-4
 returns-4 c =
-    let session = c .before .before .before .before .session-end .ensures .1 in
+    let session = ended (c .before) .session-end .ensures .1 in
     let size = c .before .number .ensures .0 in
-    λ e. session (omega arith) (omega arith) (message 4096) (message-runs _ 4096 _ _ (omega arith) size (omega arith) (leb-true _ 4096 e))
+    λ e. session (omega arith) (omega arith) (message _) (message-runs _ _ _ _ (omega arith) size (omega arith) (leb-true _ _ e))
 
 pub message-spec : {M : Type 1} → statement M
 message-spec =

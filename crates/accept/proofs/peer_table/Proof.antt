@@ -1,9 +1,13 @@
--- `accept::peer_table` meets its contract. Assumes nothing.
+-- `accept::peer_table` meets its contract.
 use native.Mathlib.Omega.{arith}
 use Rattle.accept.proofs.Leaves.{table-sure}
 use borrow.Author.Needs.{needs}
 use Rattle.accept.proofs.peer_table.Statement.{statement}
 use Rattle.accept.proofs.peer_table.Tie as tie
+
+-- where the name's end was read
+abbrev named : tie.After-peers → tie.After-name-end
+named c = c .before .before .before
 
 returns : tie.Need-returns
 returns c = search needs
@@ -28,9 +32,9 @@ peers-requires c κs = search needs
 
 returns-3 : tie.Need-returns-3
 returns-3 c =
-    let counted = c .before .before .before .before .name-end .ensures .0 in
+    let counted = named (c .before) .name-end .ensures .0 in
     let many = c .before .before .count .ensures .0 in
-    λ t. table-sure _ t _ _ (omega arith) counted many (omega arith) (c .before .peers .ensures (c .if3 .taken))
+    λ n t. table-sure n _ t _ _ (omega arith) counted many (omega arith) (c .before .peers .ensures (c .if3 .taken))
 
 returns-4 : tie.Need-returns-4
 returns-4 c = search needs

@@ -1,10 +1,14 @@
--- `accept::prefix` meets its contract. Assumes nothing.
+-- `accept::prefix` meets its contract.
 use native.Mathlib.Omega.{arith}
 use Rattle.accept.proofs.Runs.{never}
 use Rattle.accept.proofs.Fields.{prefix-runs}
 use borrow.Author.Needs.{needs}
 use Rattle.accept.proofs.prefix.Statement.{statement}
 use Rattle.accept.proofs.prefix.Tie as tie
+
+-- where the prefix's bits were read
+abbrev bits : tie.After-count → tie.After-number
+bits c = c .before .before .before
 
 returns : tie.Need-returns
 returns c = never
@@ -41,7 +45,7 @@ entries-requires c κs = search needs
 
 returns-4 : tie.Need-returns-4
 returns-4 c =
-    let n = c .before .before .before .before .number .ensures .0 in
+    let n = bits (c .before) .number .ensures .0 in
     λ e. prefix-runs _ _ _ _ _ (omega arith) (omega arith) (rw n) (omega arith) (rw (c .before .count .ensures .0) at (c .entries .ensures e))
 
 pub prefix-spec : {M : Type 1} → statement M

@@ -1,4 +1,4 @@
--- `accept::rib_generic` meets its contract. Assumes nothing.
+-- `accept::rib_generic` meets its contract.
 use native.Mathlib.Omega.{arith}
 use mathlib.Core.Path.{sym, _∙_}
 use Rattle.accept.proofs.Runs.{never}
@@ -7,6 +7,13 @@ use Rattle.accept.proofs.Leaves.{told-on}
 use borrow.Author.Needs.{needs}
 use Rattle.accept.proofs.rib_generic.Statement.{statement}
 use Rattle.accept.proofs.rib_generic.Tie as tie
+
+-- back from the family: the SAFI, the call
+abbrev safi : tie.After-number2 → tie.After-number
+safi c = c .before .before .before
+
+abbrev start : tie.After-number → tie.Start
+start c = c .before .before .before
 
 returns : tie.Need-returns
 returns c = never
@@ -25,17 +32,17 @@ rib-requires-2 c κs = search needs
 
 returns-2 : tie.Need-returns-2
 returns-2 c =
-    let q = c .before .before .before .before .before in
+    let q = safi (c .before .before) in
     let s = q .number .ensures .0 in
     let f = sym (c .before .before .number2 .ensures .0) ∙ c .before .match .keys1 in
-    λ e. told-on (q .before .before .before .args .t) _ _ (λ n p. generic-first _ n (omega arith) f (omega arith) (omega arith) p) (c .rib .ensures e)
+    λ e. told-on (start q .args .t) _ _ (λ n p. generic-first _ n (omega arith) f (omega arith) (omega arith) p) (c .rib .ensures e)
 
 returns-3 : tie.Need-returns-3
 returns-3 c =
-    let q = c .before .before .before .before .before in
+    let q = safi (c .before .before) in
     let s = q .number .ensures .0 in
     let f = sym (c .before .before .number2 .ensures .0) ∙ c .before .match .keys2 in
-    λ e. told-on (q .before .before .before .args .t) _ _ (λ n p. generic-second _ n (omega arith) f (omega arith) (omega arith) p) (c .rib2 .ensures e)
+    λ e. told-on (start q .args .t) _ _ (λ n p. generic-second _ n (omega arith) f (omega arith) (omega arith) p) (c .rib2 .ensures e)
 
 returns-4 : tie.Need-returns-4
 returns-4 c = never

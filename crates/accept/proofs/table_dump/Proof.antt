@@ -1,4 +1,4 @@
--- `accept::table_dump` meets its contract. Assumes nothing.
+-- `accept::table_dump` meets its contract.
 use mathlib.Core.Path.{refl, sym, _∙_}
 use native.Mathlib.Omega.{arith}
 use Rattle.accept.proofs.Runs.{never}
@@ -6,6 +6,13 @@ use Rattle.accept.proofs.Fields.{route-runs}
 use borrow.Author.Needs.{needs}
 use Rattle.accept.proofs.table_dump.Statement.{statement}
 use Rattle.accept.proofs.table_dump.Tie as tie
+
+-- back from the tiling: the length of the attributes, the prefix's bits
+abbrev sized : tie.After-tile → tie.After-number2
+sized c = c .before .before .before
+
+abbrev bits-read : tie.After-number2 → tie.After-number
+bits-read c = c .before .before
 
 mul-first : tie.Need-mul-first
 mul-first c = search needs
@@ -54,8 +61,8 @@ tile-requires c κs = search needs
 
 returns-4 : tie.Need-returns-4
 returns-4 c =
-    let bits = c .before .before .before .before .before .number .ensures .0 in
-    let size = c .before .before .before .number2 .ensures .0 in
+    let bits = bits-read (sized c) .number .ensures .0 in
+    let size = sized c .number2 .ensures .0 in
     λ e. route-runs _ _ _ (omega arith) (omega arith) (omega arith) refl (sym (c .tile .ensures) ∙ e)
 
 pub table-dump-spec : {M : Type 1} → statement M

@@ -1,4 +1,4 @@
--- `cut::leave` meets its contract. Assumes nothing.
+-- `cut::leave` meets its contract.
 use mathlib.Core.Path.{_≡_, sym, ap, ap₂, _∙_}
 use Prim.Native.Nat.{_+_, _-_}
 use native.Mathlib.Omega.{arith}
@@ -8,9 +8,9 @@ use Rattle.form.specs.Octets.{Octets}
 use Rattle.form.proofs.Octets.{octets-of}
 use Rattle.reading.specs.Answer.{place}
 use Rattle.look.specs.Sort.{sortBy, isTable}
-use Rattle.look.specs.Field.{typeOf, subtypeOf, Good}
+use Rattle.look.specs.Field.{Told, shown, typeOf, subtypeOf, Good}
 use Rattle.look.proofs.There.{sorted}
-use Rattle.cut.specs.State.{tableOf, shownAt}
+use Rattle.cut.specs.State.{tableOf}
 use Rattle.cut.specs.Stands.{Stands}
 use Rattle.cut.proofs.One.{Is, goes-on, fate-is}
 use Rattle.cut.proofs.Turn.{Turn, turn-starts, turn-stands, turn-last, turn-done, turn-room, turn-on}
@@ -19,12 +19,19 @@ use Rattle.cut.proofs.leave.Statement.{statement}
 use Rattle.cut.proofs.leave.Tie as tie
 
 abbrev Inv-loop : tie.InvT-loop
-Inv-loop d w mutes news₀ out₀ lays at₀ s₀ f₀ news out at s f = Turn (w .start) (w .end) mutes d lays news out₀ out at s f
+Inv-loop d w mutes news₀ out₀ lays longest at₀ s₀ f₀ news out at s f = Turn longest (w .start) (w .end) mutes d lays news out₀ out at s f
 
 abbrev μ-loop : tie.MeasureT-loop
-μ-loop d w mutes news₀ out₀ lays at₀ s₀ f₀ news out at s f = length d - at
+μ-loop d w mutes news₀ out₀ lays longest at₀ s₀ f₀ news out at s f = length d - at
 
 -- ---- a turn, and where it started
+
+-- the state in which the function was called
+abbrev start : tie.At-loop Inv-loop μ-loop → tie.Start Inv-loop μ-loop
+start c = c .before .before .before .before
+
+abbrev turn : tie.In-loop Inv-loop μ-loop → tie.At-loop Inv-loop μ-loop
+turn c = c .before
 
 abbrev from-kind : tie.After-subtype-of Inv-loop μ-loop → tie.In-loop Inv-loop μ-loop
 from-kind c = c .before .before
@@ -32,41 +39,48 @@ from-kind c = c .before .before
 abbrev from-end : tie.After-end-at Inv-loop μ-loop → tie.After-subtype-of Inv-loop μ-loop
 from-end c = c .before .before .before .before
 
-octets : (c : tie.In-loop Inv-loop μ-loop) → Octets (c .before .before .before .before .before .args .d .now)
-octets c = let q = c .before .before .before .before in octets-of (q .before .args .d .now) (λ k. omega (arith, q .shared-slice-known .given k))
+abbrev from-pass : tie.After-pass Inv-loop μ-loop → tie.After-fate-of Inv-loop μ-loop
+from-pass c = c .before .before .before
+
+-- what a reader is told there
+abbrev told : tie.In-loop Inv-loop μ-loop → Told
+told c = let l = turn c in record { longest = start l .args .longest; table = tableOf (l .loop .f) }
+
+octets : (c : tie.At-loop Inv-loop μ-loop) → Octets (now (start c .args .d))
+octets c = octets-of (now (start c .args .d)) (λ k. omega (arith, c .before .before .before .shared-slice-known .given k))
 
 -- a good record stands there
-stands : (c : tie.In-loop Inv-loop μ-loop) → let a = c .before .before .before .before .before .args in
-    let l = c .before .loop in
-    Stands (now (a .mutes)) (l .news) (now (a .d)) (l .at) (l .f)
-stands c = turn-stands (c .before .loop .inv) (octets c) (c .loop-test .taken)
+stands : (c : tie.In-loop Inv-loop μ-loop) → let l = turn c in
+    let a = start l .args in
+    Stands (a .longest) (now (a .mutes)) (l .loop .news) (now (a .d)) (l .loop .at) (l .loop .f)
+stands c = turn-stands (turn c .loop .inv) (octets (turn c)) (c .loop-test .taken)
 
-good : (c : tie.In-loop Inv-loop μ-loop) → let l = c .before .loop in Good (tableOf (l .f)) (now (c .before .before .before .before .before .args .d)) (l .at)
+good : (c : tie.In-loop Inv-loop μ-loop) → let l = turn c in Good (told c) (now (start l .args .d)) (l .loop .at)
 good c = let s = stands c in (s .before, s .good)
 
 -- its type and subtype
 kind : (c : tie.After-subtype-of Inv-loop μ-loop) → let b = from-kind c in
-    let l = b .before .loop in
-    let x = shownAt (now (b .before .before .before .before .before .args .d)) (l .f) (l .at) in
+    let l = turn b in
+    let x = shown (told b) (now (start l .args .d)) (l .loop .at) in
     (typeOf x ≡ c .before .type-of .result) × (subtypeOf x ≡ c .subtype-of .result)
 kind c = let g = good (from-kind c) in (sym (c .before .type-of .ensures _ g), sym (c .subtype-of .ensures _ g))
 
 -- where it ends
 ends : (c : tie.After-end-at Inv-loop μ-loop) → let b = from-kind (from-end c) in
-    let l = b .before .loop in
-    c .end-at .result ≡ l .at + place (shownAt (now (b .before .before .before .before .before .args .d)) (l .f) (l .at))
+    let l = turn b in
+    c .end-at .result ≡ l .loop .at + place (shown (told b) (now (start l .args .d)) (l .loop .at))
 ends c = c .end-at .ensures _ (good (from-kind (from-end c))) .is
 
 -- what becomes of it
 is : (c : tie.After-fate-of Inv-loop μ-loop) → let t = c .before .before .table-behind in
     let b = from-kind (from-end (c .before)) in
-    let a = b .before .before .before .before .before .args in
-    Is (octets b) (stands b) (a .w .start) (a .w .end) (ends (c .before)) (t .ensures .0) (t .ensures .1) (c .fate-of .result)
+    let a = start (turn b) .args in
+    Is (octets (turn b)) (stands b) (a .w .start) (a .w .end) (ends (c .before)) (t .ensures .0) (t .ensures .1) (c .fate-of .result)
 is c =
     let t = c .before .before .table-behind in
     let b = from-kind (from-end (c .before)) in
-    let a = b .before .before .before .before .before .args in
-    fate-is (octets b) (stands b) (a .w .start) (a .w .end) (ends (c .before)) (t .ensures .0) (t .ensures .1) _ (c .fate-of .ensures _ (good b))
+    let a = start (turn b) .args in
+    fate-is (octets (turn b)) (stands b) (a .w .start) (a .w .end) (ends (c .before)) (t .ensures .0) (t .ensures .1) _ (c .fate-of .ensures _ (good b))
 
 -- ---- the loop
 
@@ -74,13 +88,13 @@ loop-holds : tie.Need-loop-holds Inv-loop μ-loop
 loop-holds c =
     let q = c .before .before .before in
     let a = q .args in
-    turn-starts (a .w .start) (a .w .end) (now (a .mutes)) (now (a .d)) (a .lays) (now (a .news)) (now (a .out)) (q .pre .0) (q .pre .1 .0)
+    turn-starts (a .longest) (a .w .start) (a .w .end) (now (a .mutes)) (now (a .d)) (a .lays) (now (a .news)) (now (a .out)) (q .pre .0) (q .pre .1 .0)
 
 type-of-requires : tie.Need-type-of-requires Inv-loop μ-loop
-type-of-requires c κs = (_, good c)
+type-of-requires c κs = (told c, good c)
 
 subtype-of-requires : tie.Need-subtype-of-requires Inv-loop μ-loop
-subtype-of-requires c κs = (_, good (c .before))
+subtype-of-requires c κs = (told (c .before), good (c .before))
 
 is-peer-table-requires : tie.Need-is-peer-table-requires Inv-loop μ-loop
 is-peer-table-requires c κs = search needs
@@ -90,62 +104,62 @@ table-behind-requires c κs =
     let k = c .before .before in
     let b = from-kind k in
     let e = kind k in
-    let s = ap₂ sortBy (sym (e .0)) (sym (e .1)) ∙ sym (sorted _ _ _ (good b)) in
-    (stands b, (c .before .is-peer-table .ensures ∙ ap isTable s, b .before .loop .inv .long))
+    let s = ap₂ sortBy (sym (e .0)) (sym (e .1)) ∙ sym (sorted (told b) _ _ (good b)) in
+    (stands b, (c .before .is-peer-table .ensures ∙ ap isTable s, turn b .loop .inv .long))
 
 end-at-requires : tie.Need-end-at-requires Inv-loop μ-loop
-end-at-requires c κs = (_, good (from-kind (c .before .before .before)))
+end-at-requires c κs = let b = from-kind (c .before .before .before) in (told b, good b)
 
 fate-of-requires : tie.Need-fate-of-requires Inv-loop μ-loop
-fate-of-requires c κs = let k = from-end c in (_, good (from-kind k), kind k)
+fate-of-requires c κs = let k = from-end c in let b = from-kind k in (told b, good b, kind k)
 
 pass-requires : tie.Need-pass-requires Inv-loop μ-loop
 pass-requires c κs =
     let x = c .before .before in
     let t = x .before .before .table-behind in
     let b = from-kind (from-end (x .before)) in
-    let q = b .before .before .before .before .before in
-    let v = b .before .loop .inv in
+    let v = turn b .loop .inv in
     let e = ends (x .before) in
-    let g = goes-on (octets b) (stands b) in (
+    let g = goes-on (octets (turn b)) (stands b) in (
       (v .leaves .used, v .leaves .runs, omega (arith, e), omega (arith, e, g)),
-      (is x .1, turn-room v (q .pre .1 .1) (octets b) (stands b) e (t .ensures .0) (t .ensures .1) (x .fate-of .result) (is x)),
+      (is x .1, turn-room v (start (turn b) .pre .1 .1) (octets (turn b)) (stands b) e (t .ensures .0) (t .ensures .1) (x .fate-of .result) (is x)),
     )
 
 loop-less : tie.Need-loop-less Inv-loop μ-loop
 loop-less c =
-    let x = c .before .before .before .before .before .before in
+    let x = from-pass (c .before .before) .before in
     let b = from-kind (from-end x) in
     let e = ends x in
-    let g = goes-on (octets b) (stands b) in
+    let g = goes-on (octets (turn b)) (stands b) in
     search needs
 
 loop-again : tie.Need-loop-again Inv-loop μ-loop
 loop-again c =
-    let x = c .before .before .before .before .before in
+    let x = from-pass (c .before .before) in
     let t = x .before .before .table-behind in
     let b = from-kind (from-end (x .before)) in
-    let q = b .before .before .before .before .before in
-    turn-on (b .before .loop .inv) (q .pre .1 .1) (octets b) (stands b) (ends (x .before)) (t .ensures .0) (t .ensures .1) (x .fate-of .result) (is x) (t .ensures .2) (c .before .before .pass .ensures)
+    turn-on (turn b .loop .inv) (start (turn b) .pre .1 .1) (octets (turn b)) (stands b) (ends (x .before)) (t .ensures .0) (t .ensures .1) (x .fate-of .result) (is x) (t .ensures .2) (c .before .before .pass .ensures)
 
 lay-requires : tie.Need-lay-requires Inv-loop μ-loop
 lay-requires c κs =
-    let l = c .before .before .loop in
-    let q = c .before .before .before .before .before .before in
-    let i = l .inv .leaves in
-    ((i .runs, i .here .within, i .used), turn-last (l .inv) (q .pre .1 .1))
+    let l = c .before .before in
+    let i = l .loop .inv .leaves in
+    ((i .runs, i .here .within, i .used), turn-last (l .loop .inv) (start l .pre .1 .1))
+
+-- from the last octets on: the loop behind which they were laid
+abbrev done : tie.After-lay Inv-loop μ-loop → tie.At-loop Inv-loop μ-loop
+done c = c .before .before .before
 
 same-length : tie.Need-same-length Inv-loop μ-loop
-same-length c = let l = c .before .before .before .before .before .loop .inv .leaves .long in search needs
+same-length c = let l = done (c .before .before) .loop .inv .leaves .long in search needs
 
 returns : tie.Need-returns Inv-loop μ-loop
 returns c =
-    let b = c .before .before .before .before in
-    let l = b .before .loop in
-    let q = b .before .before .before .before .before in
-    let e = c .before .before .lay .ensures in
-    let z = turn-done (l .inv) (q .pre .1 .1) (b .loop-test .left) (e .0) (e .1) in
-    (z .0, z .1, l .inv .long)
+    let y = c .before .before in
+    let l = done y in
+    let e = y .lay .ensures in
+    let z = turn-done (l .loop .inv) (start l .pre .1 .1) (y .before .before .loop-test .left) (e .0) (e .1) in
+    (z .0, z .1, l .loop .inv .long)
 
 pub leave-spec : {M : Type 1} → statement M
 leave-spec =

@@ -1,4 +1,4 @@
--- `cut::table_behind` meets its contract. Assumes nothing.
+-- `cut::table_behind` meets its contract.
 use mathlib.Core.Path.{_≡_, sym, _∙_}
 use mathlib.Core.Bool.{true}
 use Prim.Native.Nat.{_+_}
@@ -6,10 +6,11 @@ use native.Mathlib.Omega.{arith}
 use denote.Ref.{now}
 use Rattle.form.specs.Octets.{Octets}
 use Rattle.form.proofs.Octets.{octets-of}
-use Rattle.look.specs.Field.{Counted}
+use Rattle.shown.specs.declared.Shown.{Shown}
+use Rattle.look.specs.Field.{Told, shown, Good, Counted}
 use Rattle.look.specs.Sort.{sortOf, isTable}
 use Rattle.look.proofs.Sort.{table-sort}
-use Rattle.cut.specs.State.{tableOf, shownAt}
+use Rattle.cut.specs.State.{tableOf}
 use Rattle.cut.proofs.One.{Peered, peered, table-stays}
 use Rattle.cut.proofs.Turn.{length-filled, none-lost}
 use Rattle.cut.proofs.table_behind.Statement.{statement}
@@ -18,28 +19,37 @@ use Rattle.cut.proofs.table_behind.Tie as tie
 octets : (c : tie.After-shared-slice-known) → Octets (c .before .args .d .now)
 octets c = octets-of (c .before .args .d .now) (λ k. omega (arith, c .shared-slice-known .given k))
 
+-- the state in which the function was called, where the record is a peer table
+abbrev start : tie.Then1 → tie.Start
+start c = c .before .before .before
+
+abbrev counting : tie.After-peer-count-at → tie.Then1
+counting c = c .before
+
+-- what a reader is told there, and the record that it shows
+abbrev told : tie.Start → Told
+told q = record { longest = q .args .longest; table = tableOf (q .args .f) }
+
+abbrev here : tie.Start → Shown
+here q = shown (told q) (now (q .args .d)) (q .args .at)
+
+good : (q : tie.Start) → Good (told q) (now (q .args .d)) (q .args .at)
+good q = let s = q .pre .0 in (s .before, s .good)
+
 -- the record is a peer table
-is : (c : tie.Then1) → let a = c .before .before .before .args in isTable (sortOf (shownAt (now (a .d)) (a .f) (a .at))) ≡ true
-is c = sym (c .before .before .before .pre .1 .0) ∙ c .if1 .taken
+is : (c : tie.Then1) → isTable (sortOf (here (start c))) ≡ true
+is c = sym (start c .pre .1 .0) ∙ c .if1 .taken
 
 -- where its peers are counted
-counted : (c : tie.After-peer-count-at) → let a = c .before .before .before .before .args in Counted (now (a .d)) (a .at) (c .peer-count-at .result) (shownAt (now (a .d)) (a .f) (a .at))
-counted c =
-    let q = c .before .before .before .before in
-    let s = q .pre .0 in
-    c .peer-count-at .ensures (tableOf (q .args .f)) (s .before, s .good)
+counted : (c : tie.After-peer-count-at) → let q = start (counting c) in Counted (now (q .args .d)) (q .args .at) (c .peer-count-at .result) (here q)
+counted c = let q = start (counting c) in c .peer-count-at .ensures (told q) (good q)
 
 -- and how many they are
-peers : (c : tie.After-count) → let q = c .before .before .before .before .before in Peered (octets (c .before .before .before .before)) (q .pre .0) (c .before .peer-count-at .result + 2) (c .count .result)
-peers c =
-    let k = c .before in
-    peered (octets (k .before .before .before)) (k .before .before .before .before .pre .0) (counted k) (c .count .ensures .0) (is (k .before))
+peers : (c : tie.After-count) → let k = counting (c .before) in Peered (octets (k .before .before)) (start k .pre .0) (c .before .peer-count-at .result + 2) (c .count .result)
+peers c = let k = counting (c .before) in peered (octets (k .before .before)) (start k .pre .0) (counted (c .before)) (c .count .ensures .0) (is k)
 
 peer-count-at-requires : tie.Need-peer-count-at-requires
-peer-count-at-requires c κs =
-    let q = c .before .before .before in
-    let s = q .pre .0 in
-    (tableOf (q .args .f), (s .before, s .good), table-sort _ (is c))
+peer-count-at-requires c κs = let q = start c in (told q, good q, table-sort _ (is c))
 
 add-from : tie.Need-add-from
 add-from c = let k = counted c in omega (arith, k .inside)
@@ -51,12 +61,12 @@ fill-news-requires : tie.Need-fill-news-requires
 fill-news-requires c κs =
     let k = c .before in
     let p = peers k in
-    (p .lie, (k .before .before .before .before .before .pre .1 .1, p .few))
+    (p .lie, (start (counting (k .before)) .pre .1 .1, p .few))
 
 returns : tie.Need-returns
 returns c =
     let k = c .before .before in
-    let q = k .before .before .before .before .before in
+    let q = start (counting (k .before)) in
     let a = q .args in
     let p = peers k in
     let e = c .fill-news .ensures in

@@ -1,19 +1,25 @@
--- `cut_fate::rib_fate` meets its contract. Assumes nothing.
+-- `cut_fate::rib_fate` meets its contract.
 use mathlib.Core.Path.{_≡_, sym, ap, _∙_}
 use mathlib.Core.Bool.{false, _&&_}
 use Prim.Native.Nat.{ℕ}
 use native.Mathlib.Omega.{arith}
 use lib.Dec.{leb, ltb}
 use denote.Ref.{now}
-use Rattle.shown.specs.declared.Table.{Table}
 use Rattle.page.specs.Layout.{finer}
-use Rattle.look.specs.Field.{typeOf, timeOf, shown, Good, Counted}
+use Rattle.look.specs.Field.{Told, typeOf, timeOf, shown, Good, Counted}
 use Rattle.look.proofs.Sort.{is-rib, early}
 use Rattle.look.proofs.There.{sorted}
 use Rattle.cut_fate.proofs.Fated.{entries-there}
 use borrow.Author.Needs.{needs}
 use Rattle.cut_fate.proofs.rib_fate.Statement.{statement}
 use Rattle.cut_fate.proofs.rib_fate.Tie as tie
+
+-- back from the count of the entries: whether the time is inside, the call
+abbrev timed : tie.After-entry-count-at → tie.After-inside
+timed c = c .before .before .before
+
+abbrev start : tie.After-inside → tie.Start
+start c = c .before .before .before
 
 -- it has no microseconds
 coarse : (c : tie.After-shared-slice-known) → let a = c .before .args in finer (typeOf (shown (c .before .pre .0) (a .d .now) (a .at))) ≡ false
@@ -23,16 +29,16 @@ coarse c =
     early _ (λ z. omega arith) (λ z. omega arith) (λ z. omega arith)
 
 -- whether its time is inside
-within : (c : tie.After-inside) → let a = c .before .before .before .args in
-    (t : Table) → Good t (a .d .now) (a .at) → (leb (a .w .start) (timeOf (shown t (a .d .now) (a .at))) && ltb (timeOf (shown t (a .d .now) (a .at))) (a .w .end)) ≡ c .inside .result
+within : (c : tie.After-inside) → let a = start c .args in
+    (t : Told) → Good t (a .d .now) (a .at) → (leb (a .w .start) (timeOf (shown t (a .d .now) (a .at))) && ltb (timeOf (shown t (a .d .now) (a .at))) (a .w .end)) ≡ c .inside .result
 within c t g =
-    let a = c .before .before .before .args in
+    let a = start c .args in
     sym (c .inside .ensures ∙ ap (λ (m : ℕ). leb (a .w .start) m && ltb m (a .w .end)) (c .before .seconds .ensures t g))
 
 -- where the entries are counted
-counted : (c : tie.After-entry-count-at) → let q = c .before .before .before .before .before .before in
+counted : (c : tie.After-entry-count-at) → let q = start (timed c) in
     Counted (q .args .d .now) (q .args .at) (c .entry-count-at .result) (shown (q .pre .0) (q .args .d .now) (q .args .at))
-counted c = let k = c .before .before .before .before .before .before .pre in c .entry-count-at .ensures (k .0) (k .1)
+counted c = let k = start (timed c) .pre in c .entry-count-at .ensures (k .0) (k .1)
 
 seconds-requires : tie.Need-seconds-requires
 seconds-requires c κs = let k = c .before .pre in (k .0, k .1, coarse c)
@@ -41,7 +47,7 @@ inside-requires : tie.Need-inside-requires
 inside-requires c κs = search needs
 
 entry-count-at-requires : tie.Need-entry-count-at-requires
-entry-count-at-requires c κs = c .before .before .before .before .before .pre
+entry-count-at-requires c κs = start (c .before .before) .pre
 
 add-t10 : tie.Need-add-t10
 add-t10 c = let k = counted c in omega (arith, k .inside)

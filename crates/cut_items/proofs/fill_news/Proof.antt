@@ -26,19 +26,27 @@ Inv-loop m from count mutes news₀ at₀ i₀ k₀ news at i k = Filling m (gon
 abbrev μ-loop : tie.MeasureT-loop
 μ-loop m from count mutes news₀ at₀ i₀ k₀ news at i k = count - i
 
+-- the call that a turn of the loop belongs to
+abbrev start : (c : tie.At-loop Inv-loop μ-loop) → tie.Start Inv-loop μ-loop
+start c = c .before .before .before
+
+-- the turn that has counted its peer
+abbrev turn : (c : tie.After-count-of Inv-loop μ-loop) → tie.In-loop Inv-loop μ-loop
+turn c = c .before .before .before .before
+
 -- the peer at `at`, and those behind it
-ahead : (c : tie.In-loop Inv-loop μ-loop) → let a = c .before .before .before .before .args in
+ahead : (c : tie.In-loop Inv-loop μ-loop) → let a = start (c .before) .args in
     let l = c .before .loop in
     Next peer (a .m .now) (l .at) (a .count - l .i) (l .inv .its) (l .inv .rest)
 ahead c =
-    let a = c .before .before .before .before .args in
+    let a = start (c .before) .args in
     let l = c .before .loop in
     next peer (a .m .now) (l .at) (a .count - l .i) (l .inv .its) (l .inv .rest) (l .inv .here) (omega arith)
 
 octets : (c : tie.After-shared-slice-known Inv-loop μ-loop) → Octets (c .before .args .m .now)
 octets c = octets-of (c .before .args .m .now) (λ k. omega (arith, c .shared-slice-known .given k))
 
-there : (c : tie.In-loop Inv-loop μ-loop) → let m = c .before .before .before .before .args .m .now in
+there : (c : tie.In-loop Inv-loop μ-loop) → let m = start (c .before) .args .m .now in
     let at = c .before .loop .at in
     PeerAt m at (item peer (drop at m))
 there c = peer-at _ _ (octets (c .before .before .before)) (ahead c .lies)
@@ -67,7 +75,7 @@ count-of-requires : tie.Need-count-of-requires Inv-loop μ-loop
 count-of-requires c κs = search needs
 
 peer-end-requires : tie.Need-peer-end-requires Inv-loop μ-loop
-peer-end-requires c κs = let e = there (c .before .before .before .before) in omega (arith, e .end, e .room)
+peer-end-requires c κs = let e = there (turn c) in omega (arith, e .end, e .room)
 
 add-i : tie.Need-add-i Inv-loop μ-loop
 add-i c = search needs
@@ -77,24 +85,25 @@ loop-less c = search needs
 
 loop-again : tie.Need-loop-again Inv-loop μ-loop
 loop-again c =
-    let b = c .before .before .before .before .before in
-    let l = b .before .loop in
-    let p = b .before .before .before .before in
-    let a = p .args in
-    let n = p .pre .1 in
+    let t = turn (c .before) in
+    let l = t .before .loop in
+    let s = start (t .before) in
+    let a = s .args in
+    let n = s .pre .1 in
+    let found = c .before .before .before in
     fill-turn (a .m .now) (gone (a .mutes .now)) _ (a .news .now) (l .news) (a .count) (l .at) (l .i) (l .k) _ _ _ _ (l .inv) (search needs) (omega arith)
-    (c .peer-end .ensures .1 (ahead b .lies) .0) (c .before .before .before .listed .ensures ∙ ap (gone (a .mutes .now)) (c .before .before .before .before .peer-as .ensures))
+    (c .peer-end .ensures .1 (ahead t .lies) .0) (found .listed .ensures ∙ ap (gone (a .mutes .now)) (found .before .peer-as .ensures))
     (c .before .before .index-of .ensures) (c .before .count-of .ensures)
 
 cast-result : tie.Need-cast-result Inv-loop μ-loop
-cast-result c = let l = c .before .loop .inv in let w = l .within in let f = l .few in let p = c .before .before .before .before .pre .1 in search needs
+cast-result c = let l = c .before .loop .inv in let w = l .within in let f = l .few in let p = start (c .before) .pre .1 in search needs
 
 returns : tie.Need-returns Inv-loop μ-loop
 returns c =
     let l = c .before .loop in
-    let p = c .before .before .before .before in
-    let a = p .args in
-    let n = p .pre .1 in
+    let s = start (c .before) in
+    let a = s .args in
+    let n = s .pre .1 in
     fill-done (a .m .now) (gone (a .mutes .now)) _ (a .news .now) (l .news) (a .count) (l .at) (l .i) (l .k) (l .inv) (search needs) (omega arith)
 
 pub fill-news-spec : {M : Type 1} → statement M

@@ -23,11 +23,23 @@ Inv-loop m from count peers news out₀ put lays at₀ left₀ s₀ out at left 
 abbrev μ-loop : tie.MeasureT-loop
 μ-loop m from count peers news out₀ put lays at₀ left₀ s₀ out at left s = left
 
+-- the call that a turn of the loop belongs to
+abbrev start : (c : tie.At-loop Inv-loop μ-loop) → tie.Start Inv-loop μ-loop
+start c = c .before .before .before
+
+-- the turn that has asked for the entry's new index
+abbrev turn : (c : tie.After-new-index Inv-loop μ-loop) → tie.In-loop Inv-loop μ-loop
+turn c = c .before .before .before
+
+-- where the entry that is laid now had its size and new index
+abbrev known : (c : tie.After-slice-known2 Inv-loop μ-loop) → tie.After-new-index Inv-loop μ-loop
+known c = c .before .before .before .before
+
 -- the entry at `at`, and those behind it
-next : (c : tie.In-loop Inv-loop μ-loop) → let a = c .before .before .before .before .args in
+next : (c : tie.In-loop Inv-loop μ-loop) → let a = start (c .before) .args in
     let l = c .before .loop in
     Next (entry (a .peers)) (a .m .now) (l .at) (l .left) (l .inv .its) (l .inv .rest)
-next c = let a = c .before .before .before .before .args in ahead (moves (a .peers) (a .news .now)) (c .before .loop .inv) (c .loop-test .taken)
+next c = let a = start (c .before) .args in ahead (moves (a .peers) (a .news .now)) (c .before .loop .inv) (c .loop-test .taken)
 
 loop-holds : tie.Need-loop-holds Inv-loop μ-loop
 loop-holds c =
@@ -45,13 +57,15 @@ new-index-requires : tie.Need-new-index-requires Inv-loop μ-loop
 new-index-requires c κs = search needs
 
 -- the new index of the entry's peer
-new : (c : tie.After-new-index Inv-loop μ-loop) → let b = c .before .before .before in
-    let a = b .before .before .before .before .args in
-    c .new-index .result ≡ getD (a .news .now) (indexOf (item (entry (a .peers)) (drop (b .before .loop .at) (a .m .now)))) 0
-new c = c .new-index .ensures ∙ ap (λ (i : ℕ). getD (c .before .before .before .before .before .before .before .args .news .now) i 0) (c .before .entry-index .ensures .1 _ (next (c .before .before .before) .lies))
+new : (c : tie.After-new-index Inv-loop μ-loop) → let l = turn c .before in
+    let a = start l .args in
+    c .new-index .result ≡ getD (a .news .now) (indexOf (item (entry (a .peers)) (drop (l .loop .at) (a .m .now)))) 0
+new c =
+    let a = start (turn c .before) .args in
+    c .new-index .ensures ∙ ap (λ (i : ℕ). getD (a .news .now) i 0) (c .before .entry-index .ensures .1 _ (next (turn c) .lies))
 
 -- the entry's octets
-sized : (c : tie.After-entry-size Inv-loop μ-loop) → let a = c .before .before .before .before .before .args in
+sized : (c : tie.After-entry-size Inv-loop μ-loop) → let a = start (c .before .before) .args in
     let at = c .before .before .loop .at in
     (c .entry-size .result ≡ length (join (item (entry (a .peers)) (drop at (a .m .now))))) × (at + c .entry-size .result ≤ length (a .m .now))
 sized c = c .entry-size .ensures .2 _ (next (c .before) .lies)
@@ -59,9 +73,9 @@ sized c = c .entry-size .ensures .2 _ (next (c .before) .lies)
 lay-entry-requires : tie.Need-lay-entry-requires Inv-loop μ-loop
 lay-entry-requires c κs =
     let k = c .before in
-    let b = k .before .before .before in
+    let b = turn k in
     let l = b .before .loop in
-    let p = b .before .before .before .before in
+    let p = start (b .before) in
     let a = p .args in
     let n = k .before .before .entry-size .ensures in
     let e = sized (k .before .before) in
@@ -75,7 +89,7 @@ lay-entry-requires c κs =
     )
 
 add-at : tie.Need-add-at Inv-loop μ-loop
-add-at c = let e = sized (c .before .before .before .before .before .before) .1 in search needs
+add-at c = let e = sized (known c .before .before) .1 in search needs
 
 sub-left : tie.Need-sub-left Inv-loop μ-loop
 sub-left c = search needs
@@ -85,10 +99,10 @@ loop-less c = search needs
 
 loop-again : tie.Need-loop-again Inv-loop μ-loop
 loop-again c =
-    let k = c .before .before .before .before in
-    let b = k .before .before .before in
+    let k = known c in
+    let b = turn k in
     let l = b .before .loop in
-    let p = b .before .before .before .before in
+    let p = start (b .before) in
     let a = p .args in
     let x = c .before .before .lay-entry .ensures in
     let f = l .inv .few in
@@ -100,7 +114,7 @@ same-length c = c .before .loop .inv .long
 returns : tie.Need-returns Inv-loop μ-loop
 returns c =
     let l = c .before .loop in
-    let a = c .before .before .before .before .args in
+    let a = start (c .before) .args in
     lay-done (moves (a .peers) (a .news .now)) (l .inv) (c .loop-test .left)
 
 pub lay-entries-spec : {M : Type 1} → statement M

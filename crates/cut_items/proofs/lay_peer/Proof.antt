@@ -6,6 +6,14 @@ use borrow.Author.Needs.{needs}
 use Rattle.cut_items.proofs.lay_peer.Statement.{statement}
 use Rattle.cut_items.proofs.lay_peer.Tie as tie
 
+-- the call, where the peer stays
+abbrev start : (c : tie.Else1) → tie.Start
+start c = c .before .before .before
+
+-- where it is laid and not only counted
+abbrev lays : (c : tie.After-slice-known2) → tie.Then2
+lays c = c .before .before .before .before
+
 returns : tie.Need-returns
 returns c =
     let a = c .before .before .before .args in
@@ -20,7 +28,7 @@ add-end c = search needs
 copy-block-requires : tie.Need-copy-block-requires
 copy-block-requires c κs =
     let k = c .before .before .before in
-    let p = k .before .before .before .pre in
+    let p = start k .pre in
     (omega arith, (omega arith, p .1 (c .before .if2 .taken) (k .if1 .left)))
 
 same-length : tie.Need-same-length
@@ -28,15 +36,15 @@ same-length c = search needs
 
 returns-2 : tie.Need-returns-2
 returns-2 c =
-    let t = c .before .before .before .before in
+    let t = lays c in
     let k = t .before .before in
-    let a = k .before .before .before .args in
+    let a = start k .args in
     rw (k .if1 .left, t .if2 .taken) (refl, refl, c .before .before .copy-block .ensures ∙ sym (laid-so (a .out .now) (a .s .end) _))
 
 returns-3 : tie.Need-returns-3
 returns-3 c =
     let k = c .before .before in
-    let a = k .before .before .before .args in
+    let a = start k .args in
     rw (k .if1 .left, c .if2 .left) (refl, refl, sym (laid-not (a .out .now) (a .s .end) _))
 
 pub lay-peer-spec : {M : Type 1} → statement M

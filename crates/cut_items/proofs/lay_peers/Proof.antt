@@ -25,16 +25,24 @@ Inv-loop m from count news out₀ put lays at₀ i₀ s₀ out at i s = Laying p
 abbrev μ-loop : tie.MeasureT-loop
 μ-loop m from count news out₀ put lays at₀ i₀ s₀ out at i s = count - i
 
+-- the call that a turn of the loop belongs to
+abbrev start : (c : tie.At-loop Inv-loop μ-loop) → tie.Start Inv-loop μ-loop
+start c = c .before .before .before
+
+-- where the peer that is laid now had its end and new index
+abbrev known : (c : tie.After-slice-known2 Inv-loop μ-loop) → tie.After-new-index Inv-loop μ-loop
+known c = c .before .before .before .before
+
 octets : (c : tie.After-shared-slice-known Inv-loop μ-loop) → Octets (c .before .args .m .now)
 octets c = octets-of (c .before .args .m .now) (λ k. omega (arith, c .shared-slice-known .given k))
 
 -- the peer at `at`, and those behind it
-next : (c : tie.In-loop Inv-loop μ-loop) → let a = c .before .before .before .before .args in
+next : (c : tie.In-loop Inv-loop μ-loop) → let a = start (c .before) .args in
     let l = c .before .loop in
     Next peer (a .m .now) (l .at) (a .count - l .i) (l .inv .its) (l .inv .rest)
-next c = let a = c .before .before .before .before .args in ahead (keeps peer (a .news .now)) (c .before .loop .inv) (omega (arith, c .loop-test .taken))
+next c = let a = start (c .before) .args in ahead (keeps peer (a .news .now)) (c .before .loop .inv) (omega (arith, c .loop-test .taken))
 
-there : (c : tie.In-loop Inv-loop μ-loop) → let m = c .before .before .before .before .args .m .now in
+there : (c : tie.In-loop Inv-loop μ-loop) → let m = start (c .before) .args .m .now in
     let at = c .before .loop .at in
     PeerAt m at (item peer (drop at m))
 there c = peer-at _ _ (octets (c .before .before .before)) (next c .lies)
@@ -48,22 +56,22 @@ peer-end-requires : tie.Need-peer-end-requires Inv-loop μ-loop
 peer-end-requires c κs = let e = there c in omega (arith, e .end, e .room)
 
 new-index-requires : tie.Need-new-index-requires Inv-loop μ-loop
-new-index-requires c κs = let p = c .before .before .before .before .before .pre .1 .0 .0 in search needs
+new-index-requires c κs = let p = start (c .before .before) .pre .1 .0 .0 in search needs
 
 -- where the peer ends
-ends : (c : tie.After-peer-end Inv-loop μ-loop) → let m = c .before .before .before .before .before .args .m .now in
+ends : (c : tie.After-peer-end Inv-loop μ-loop) → let m = start (c .before .before) .args .m .now in
     let at = c .before .before .loop .at in
     (c .peer-end .result ≡ at + length (join (item peer (drop at m)))) × (c .peer-end .result ≤ length m) × (c .peer-end .result ≤ at + 25)
 ends c =
     let r = c .peer-end .ensures in
     let e = r .1 (next (c .before) .lies) in
-    (e .0, e .1, omega (arith, r .0, small-peer (c .before .before .before .before .before .args .m .now) (c .before .before .loop .at)))
+    (e .0, e .1, omega (arith, r .0, small-peer (start (c .before .before) .args .m .now) (c .before .before .loop .at)))
 
 sub-lay-peer : tie.Need-sub-lay-peer Inv-loop μ-loop
 sub-lay-peer c = let e = ends (c .before) in omega arith
 
 -- and so its octets
-sized : (c : tie.After-peer-end Inv-loop μ-loop) → let m = c .before .before .before .before .before .args .m .now in
+sized : (c : tie.After-peer-end Inv-loop μ-loop) → let m = start (c .before .before) .args .m .now in
     let at = c .before .before .loop .at in
     c .peer-end .result - at ≡ length (join (item peer (drop at m)))
 sized c = let e = ends c in omega arith
@@ -73,7 +81,7 @@ lay-peer-requires c κs =
     let k = c .before in
     let b = k .before .before in
     let l = b .before .loop in
-    let p = b .before .before .before .before in
+    let p = start (b .before) in
     let a = p .args in
     let e = ends (k .before) in
     let u = l .inv .used in
@@ -90,10 +98,10 @@ loop-less c = search needs
 
 loop-again : tie.Need-loop-again Inv-loop μ-loop
 loop-again c =
-    let k = c .before .before .before .before in
+    let k = known c in
     let b = k .before .before in
     let l = b .before .loop in
-    let p = b .before .before .before .before in
+    let p = start (b .before) in
     let a = p .args in
     let n = sized (k .before) in
     let e = ends (k .before) in
@@ -108,7 +116,7 @@ same-length c = c .before .loop .inv .long
 returns : tie.Need-returns Inv-loop μ-loop
 returns c =
     let l = c .before .loop in
-    let a = c .before .before .before .before .args in
+    let a = start (c .before) .args in
     lay-done (keeps peer (a .news .now)) (l .inv) (omega (arith, c .loop-test .left))
 
 pub lay-peers-spec : {M : Type 1} → statement M

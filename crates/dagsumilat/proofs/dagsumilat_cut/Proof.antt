@@ -1,9 +1,25 @@
--- `dagsumilat::dagsumilat_cut` meets its contract. Assumes nothing.
-use mathlib.Core.Path.{sym, ap, _∙_}
+-- `dagsumilat::dagsumilat_cut` meets its contract.
+use mathlib.Core.Path.{_≡_, sym, ap, _∙_}
+use denote.Ref.{now}
+use Rattle.page.specs.Bgp4mp.{longestMessage}
+use Rattle.room_spec.specs.declared.Written.{Written}
+use Rattle.cut_laws.specs.Answer.{cutAnswer}
 use Rattle.dagsumilat.specs.Answers.{cutted}
 use borrow.Author.Needs.{needs}
 use Rattle.dagsumilat.proofs.dagsumilat_cut.Statement.{statement}
 use Rattle.dagsumilat.proofs.dagsumilat_cut.Tie as tie
+
+-- back from where its answer is looked at: the cut, the call
+abbrev done : tie.After-slice-known2 → tie.After-cut
+done c = c .before .before
+
+abbrev start : tie.After-cut → tie.Start
+start c = c .before .before .before .before .before
+
+-- the words that tell what the cut answered are the promised ones
+told : (c : tie.After-slice-known2) (y : Written) → done c .cut .result ≡ y → let a = start (done c) .args in
+    cutted (now (a .answer)) y ≡ cutted (now (a .answer)) (cutAnswer longestMessage (a .from) (a .to) (now (a .mutes)) (now (a .dump)) (now (a .out)))
+told c y e = let k = done c in ap (cutted (now (start k .args .answer))) (sym e ∙ k .cut .ensures .0)
 
 cut-requires : tie.Need-cut-requires
 cut-requires c κs = search needs
@@ -39,13 +55,13 @@ same-length : tie.Need-same-length
 same-length c = search needs
 
 returns : tie.Need-returns
-returns c = (ap (cutted (c .before .before .before .before .before .before .before .before .before .before .args .answer .now)) (sym (c .before .n .given .1) ∙ c .before .before .before .before .before .cut .ensures .0), c .before .before .before .before .before .cut .ensures .1)
+returns c = let q = c .before .before .before in (told q _ (c .before .n .given .1), done q .cut .ensures .1)
 
 same-length-2 : tie.Need-same-length-2
 same-length-2 c = search needs
 
 returns-2 : tie.Need-returns-2
-returns-2 c = (ap (cutted (c .before .before .before .before .before .before .before .before .before .before .args .answer .now)) (sym (c .before .n2 .given .1) ∙ c .before .before .before .before .before .cut .ensures .0), c .before .before .before .before .before .cut .ensures .1)
+returns-2 c = let q = c .before .before .before in (told q _ (c .before .n2 .given .1), done q .cut .ensures .1)
 
 pub dagsumilat-cut-spec : {M : Type 1} → statement M
 dagsumilat-cut-spec =

@@ -3,7 +3,7 @@ use mathlib.Core.Path.{_≡_, sym, _∙_}
 use mathlib.Core.Logic.{inl, inr}
 use Prim.Native.Nat.{ℕ}
 use Rattle.look.specs.Field.{typeOf, subtypeOf, Is}
-use Rattle.dagsumilat.proofs.Laws.{told-peer, told-unread}
+use Rattle.dagsumilat.proofs.Laws.{told-peer, told-items, told-unread}
 use borrow.Author.Needs.{needs}
 use Rattle.dagsumilat.proofs.good_told.Statement.{statement}
 use Rattle.dagsumilat.proofs.good_told.Tie as tie
@@ -51,7 +51,10 @@ returns c =
     λ t g. told-peer t (a .d .now) (a .at) g (a .i) (a .table) _ _ _ (k .type-of .ensures t g) (inl (c .before .before .match .keys1)) (c .before .route-peer .ensures t g) (c .good2 .ensures)
 
 returns-2 : tie.Need-returns-2
-returns-2 c = search needs
+returns-2 c =
+    let k = c .before .before in
+    let a = k .before .before .before .args in
+    λ t g. told-items t (a .d .now) (a .at) g (a .i) (a .table) _ _ (k .type-of .ensures t g) (c .before .match .keys2) (c .items-told .ensures t g)
 
 returns-3 : tie.Need-returns-3
 returns-3 c =

@@ -1,40 +1,39 @@
--- `dagsumilat::items_told` meets its contract. Assumes nothing.
-use mathlib.Core.Path.{_≡_, sym, _∙_}
-use Rattle.shown.specs.declared.Table.{Table}
-use Rattle.look.specs.Field.{typeOf, subtypeOf, shown, Good}
-use Rattle.look.proofs.Sort.{sort-first, sort-other}
-use Rattle.look.proofs.There.{same-type, same-subtype, sorted}
-use Rattle.dagsumilat.proofs.Laws.{told-table, told-rib}
+-- `dagsumilat::items_told` meets its contract.
+use native.Mathlib.Omega.{arith}
+use Rattle.look.specs.Field.{shown, Counted}
+use Rattle.look.proofs.There.{items-counted}
+use borrow.Author.Needs.{needs}
 use Rattle.dagsumilat.proofs.items_told.Statement.{statement}
 use Rattle.dagsumilat.proofs.items_told.Tie as tie
 
--- its type and subtype, whatever table is told
-kind : (c : tie.After-shared-slice-known) → let a = c .before .args in (t : Table) → Good t (a .d .now) (a .at) → (typeOf (shown t (a .d .now) (a .at)) ≡ 13) × (subtypeOf (shown t (a .d .now) (a .at)) ≡ a .subtype)
-kind c t g = let k = c .before .pre in (same-type _ _ t (k .0) g (k .1) ∙ k .2 .0, same-subtype _ _ t (k .0) g (k .1) ∙ k .2 .1)
+-- where its count stands
+there : (c : tie.After-counted-at) → let s = c .before .before in Counted (s .args .d .now) (s .args .at) (c .counted-at .result) (shown (s .pre .0) (s .args .d .now) (s .args .at))
+there c = let k = c .before .before .pre in c .counted-at .ensures (k .0) (k .1)
 
-table-told-requires : tie.Need-table-told-requires
-table-told-requires c κs =
-    let k = c .before .before .pre in
-    (k .0, k .1, sorted (k .0) _ _ (k .1) ∙ sort-first _ _ (k .2 .0) (k .2 .1 ∙ c .if1 .taken))
+counted-at-requires : tie.Need-counted-at-requires
+counted-at-requires c κs = search needs
+
+add-good : tie.Need-add-good
+add-good c = omega (arith, there c .inside)
+
+sub-good : tie.Need-sub-good
+sub-good c = omega (arith, there c .items)
+
+count-requires : tie.Need-count-requires
+count-requires c κs = there c .inside
+
+good-requires : tie.Need-good-requires
+good-requires c κs = search needs
 
 returns : tie.Need-returns
 returns c =
-    let a = c .before .before .before .args in
+    let counted = c .before .before .counted-at in
+    let many = c .before .count in
     λ t g.
-    let e = kind (c .before .before) t g in
-    told-table t (a .d .now) (a .at) g (a .i) (a .table) _ (e .0) (e .1 ∙ c .before .if1 .taken) (c .table-told .ensures t g)
-
-rib-told-requires : tie.Need-rib-told-requires
-rib-told-requires c κs =
-    let k = c .before .before .pre in
-    (k .0, k .1, (sorted (k .0) _ _ (k .1) ∙ sort-other _ _ (k .2 .0) (λ e. c .if1 .left (sym (k .2 .1) ∙ e)), k .2 .1))
-
-returns-2 : tie.Need-returns-2
-returns-2 c =
-    let a = c .before .before .before .args in
-    λ t g.
-    let e = kind (c .before .before) t g in
-    told-rib t (a .d .now) (a .at) g (a .i) (a .table) _ (e .0) (λ z. c .before .if1 .left (sym (e .1) ∙ z)) (c .rib-told .ensures t g)
+    let e = items-counted _ _ (counted .result) (many .result) _ (counted .ensures t g) (many .ensures .0) in
+    rw (e .0, e .1) at (c .good2 .ensures)
 
 pub items-told-spec : {M : Type 1} → statement M
-items-told-spec = tie.close (tie.spec table-told-requires returns rib-told-requires returns-2)
+items-told-spec =
+    tie.close
+    (tie.spec counted-at-requires add-good sub-good count-requires good-requires returns)

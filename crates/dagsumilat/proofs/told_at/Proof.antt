@@ -1,30 +1,43 @@
--- `dagsumilat::told_at` meets its contract. Assumes nothing.
+-- `dagsumilat::told_at` meets its contract.
 use denote.Ref.{now}
-use mathlib.Core.Path.{_≡_}
+use mathlib.Core.Path.{_≡_, ap, _∙_}
+use Prim.Native.Nat.{ℕ}
 use Rattle.walking.specs.declared.Item.{Item}
 use Rattle.walking.specs.declared.Step.{Step}
 use Rattle.walking.specs.declared.Step.the-variants as step
 use Rattle.shown.specs.declared.Table.{Table}
+use Rattle.look.specs.Sort.{sortOf}
+use Rattle.look.specs.Field as field
 use Rattle.look.specs.Field.{shown, Good}
 use Rattle.dagsumilat.specs.declared.Told.{Told}
-use Rattle.dagsumilat.specs.Telling.{tableOf, toldOf, toldAt}
+use Rattle.dagsumilat.specs.Telling.{tableOf, bySort, toldOf, toldAt}
 use Rattle.dagsumilat.proofs.Laws.{told-step, stands}
 use borrow.Author.Needs.{needs}
 use Rattle.dagsumilat.proofs.told_at.Statement.{statement}
 use Rattle.dagsumilat.proofs.told_at.Tie as tie
 
--- a step that the code has taken is told, and where it is over a record a good one stands there
-told : (c : tie.After-step-at) → let a = c .before .before .before .args in (y : Step) (z : Told) → c .step-at .result ≡ y → z ≡ toldOf (a .table) (a .at) y (shown (tableOf (a .table)) (now (a .d)) (a .at)) → z ≡ toldAt 4096 (a .table) (now (a .d)) (a .at)
-told c = told-step _ _ _ _ _ (c .before .table-of .ensures) (c .step-at .ensures)
+-- the state in which the function was called
+abbrev start : tie.After-step-with → tie.Start
+start c = c .before .before .before
 
-good : (c : tie.After-step-at) → let a = c .before .before .before .args in (i : Item) (v : Table) → c .step-at .result ≡ step.Record i v → Good (tableOf (a .table)) (now (a .d)) (a .at)
-good c = stands (c .before .before .before .args .table) _ _ _ _ (c .before .table-of .ensures) (c .step-at .ensures)
+-- what the reader is told, and what it shows
+abbrev terms : tie.Start → field.Told
+terms s = record { longest = s .args .longest; table = tableOf (s .args .table) }
+
+-- a step that the code has taken is told, and where it is over a record a good one stands there
+told : (c : tie.After-step-with) → let s = start c in
+    let a = s .args in
+    (y : Step) (z : Told) → c .step-with .result ≡ y → z ≡ toldOf (a .table) (a .at) y (shown (terms s) (now (a .d)) (a .at)) → z ≡ toldAt (a .longest) (a .table) (now (a .d)) (a .at)
+told c = told-step _ _ _ _ _ _ (c .before .table-of .ensures) (c .step-with .ensures)
+
+good : (c : tie.After-step-with) → let s = start c in (i : Item) (v : Table) → c .step-with .result ≡ step.Record i v → Good (terms s) (now (s .args .d)) (s .args .at)
+good c = stands _ (start c .args .table) _ _ _ _ (c .before .table-of .ensures) (c .step-with .ensures)
 
 table-of-requires : tie.Need-table-of-requires
 table-of-requires c κs = search needs
 
-step-at-requires : tie.Need-step-at-requires
-step-at-requires c κs = search needs
+step-with-requires : tie.Need-step-with-requires
+step-with-requires c κs = search needs
 
 enum-told : tie.Need-enum-told
 enum-told c = search needs
@@ -41,34 +54,46 @@ no-record-requires-2 c κs = search needs
 enum-known-i : tie.Need-enum-known-i
 enum-known-i c = search needs
 
+count-of-table-requires : tie.Need-count-of-table-requires
+count-of-table-requires c κs = search needs
+
+-- the step that found a record
+abbrev stepped : tie.After-count-of-table → tie.After-step-with
+stepped c = c .before .before .before .before
+
 good-told-requires : tie.Need-good-told-requires
-good-told-requires c κs =
-    let k = c .before .before .before in
-    (tableOf (k .before .before .before .args .table), good k _ _ (c .before .i .given .1))
+good-told-requires c κs = let k = stepped c in (terms (start k), good k _ _ (c .before .before .i .given .1))
 
 returns : tie.Need-returns
 returns c = told (c .before .before .before) _ _ (c .before .enum-told .given .1) (c .no-record .ensures)
 
+-- the step that found a fault
+abbrev faulty : tie.After-no-record2 → tie.After-step-with
+faulty c = c .before .before .before .before
+
 returns-2 : tie.Need-returns-2
-returns-2 c = told (c .before .before .before .before) _ _ (c .before .before .n .given .1) (c .no-record2 .ensures)
+returns-2 c = told (faulty c) _ _ (c .before .before .n .given .1) (c .no-record2 .ensures)
 
 returns-3 : tie.Need-returns-3
 returns-3 c =
-    let k = c .before .before .before .before in
-    let e = c .before .before .i .given .1 in
-    told k _ _ e (c .good-told .ensures _ (good k _ _ e))
+    let k = stepped (c .before) in
+    let s = start k in
+    let x = shown (terms s) (now (s .args .d)) (s .args .at) in
+    let found = c .before .before .before .i .given in
+    told k _ _ (found .1) (c .good-told .ensures _ (good k _ _ (found .1)) ∙ ap (λ (n : ℕ). bySort (found .0 .0) n x (sortOf x)) (c .before .count-of-table .ensures))
 
 pub told-at-spec : {M : Type 1} → statement M
 told-at-spec =
     tie.close
     (tie.spec
     table-of-requires
-    step-at-requires
+    step-with-requires
     enum-told
     no-record-requires
     enum-known-n
     no-record-requires-2
     enum-known-i
+    count-of-table-requires
     good-told-requires
     returns
     returns-2

@@ -1,8 +1,9 @@
--- `listing::list` ends: each step goes on. Assumes nothing.
+-- `listing::list` ends: each step goes on.
 use mathlib.Core.Path.{sym, _∙_}
 use Prim.Native.Nat.{_-_, _≤_, _<_}
 use native.Mathlib.Omega.{arith}
 use lib.ListN.{length}
+use Rattle.form.specs.Octets.{Octets}
 use Rattle.form.proofs.Octets.{octets-of}
 use Rattle.walking.proofs.Goes.{step-on}
 use borrow.Author.Needs.{needs}
@@ -14,6 +15,20 @@ Inv-loop d at₀ t₀ at t = at ≤ length d
 
 abbrev μ-loop : tie.MeasureT-loop
 μ-loop d at₀ t₀ at t = length d - at
+
+-- back from the record that a step found: the step, the turn, the call
+abbrev stepped : tie.After-i Inv-loop μ-loop → tie.After-step-at Inv-loop μ-loop
+stepped c = c .before .before
+
+abbrev turn : tie.After-step-at Inv-loop μ-loop → tie.At-loop Inv-loop μ-loop
+turn c = c .before
+
+abbrev start : tie.At-loop Inv-loop μ-loop → tie.Start Inv-loop μ-loop
+start c = c .before .before
+
+-- the dump's octets are octets
+octets : (c : tie.At-loop Inv-loop μ-loop) → Octets (start c .args .d .now)
+octets c = octets-of (start c .args .d .now) (λ k. omega (arith, c .before .shared-slice-known .given k))
 
 loop-holds : tie.Need-loop-holds Inv-loop μ-loop
 loop-holds c = search needs
@@ -46,19 +61,18 @@ line-requires : tie.Need-line-requires Inv-loop μ-loop
 line-requires c κs = search needs
 
 -- the next record starts behind this one, inside the dump
-on : (c : tie.After-line Inv-loop μ-loop) → let i = c .before .before .i .given .0 .0 in
-    let l = c .before .before .before .before .before in
-    (l .loop .at < i .next) × (i .next ≤ length (l .before .before .args .d .now))
+on : (c : tie.After-i Inv-loop μ-loop) → let i = c .i .given .0 .0 in
+    let l = turn (stepped c) in
+    (l .loop .at < i .next) × (i .next ≤ length (start l .args .d .now))
 on c =
-    let l = c .before .before .before .before .before in
-    step-on 4096 (l .before .before .args .d .now) (octets-of (l .before .before .args .d .now) (λ k. omega (arith, l .before .shared-slice-known .given k))) (l .loop .at) (l .loop .inv) (l .loop .t) _ _
-    (sym (c .before .before .before .before .step-at .ensures) ∙ c .before .before .i .given .1)
+    let l = turn (stepped c) in
+    step-on _ (start l .args .d .now) (octets l) (l .loop .at) (l .loop .inv) (l .loop .t) _ _ (sym (stepped c .step-at .ensures) ∙ c .i .given .1)
 
 loop-less : tie.Need-loop-less Inv-loop μ-loop
-loop-less c = let o = on c in omega arith
+loop-less c = let o = on (c .before .before) in omega arith
 
 loop-again : tie.Need-loop-again Inv-loop μ-loop
-loop-again c = on c .1
+loop-again c = on (c .before .before) .1
 
 pub list-spec : {M : Type 1} → statement M
 list-spec =

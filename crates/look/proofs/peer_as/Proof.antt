@@ -13,6 +13,10 @@ use borrow.Author.Needs.{needs}
 use Rattle.look.proofs.peer_as.Statement.{statement}
 use Rattle.look.proofs.peer_as.Tie as tie
 
+-- where its AS number starts, and what is known of the dump before
+abbrev found : (c : tie.After-wide-as) → tie.After-peer-as-at
+found c = c .before .before
+
 -- its type octet
 abbrev kind : tie.After-shared-slice-known → ℕ
 kind c = let a = c .before .args in getD (a .d .now) (a .at) 0
@@ -30,18 +34,36 @@ wide-as-requires : tie.Need-wide-as-requires
 wide-as-requires c κs = search needs
 
 number-requires : tie.Need-number-requires
-number-requires c κs = let q = c .before .before .before .before in let e = there q in let s = wide-size (kind q) _ (c .before .wide-as .ensures) (c .if1 .taken) in (search needs, omega (arith, e .room, c .before .before .before .peer-as-at .ensures))
+number-requires c κs =
+    let w = c .before in
+    let q = found w .before in
+    let e = there q in
+    let s = wide-size (kind q) _ (w .wide-as .ensures) (c .if1 .taken) in
+    (search needs, omega (arith, e .room, found w .peer-as-at .ensures))
 
 returns : tie.Need-returns
-returns c = let q = c .before .before .before .before .before in let e = there q in let s = wide-size (kind q) _ (c .before .before .wide-as .ensures) (c .before .if1 .taken) in
-    c .number .ensures .0 ∙ rw (c .before .before .before .before .peer-as-at .ensures) (rw s at (e .number))
+returns c =
+    let w = c .before .before in
+    let q = found w .before in
+    let e = there q in
+    let s = wide-size (kind q) _ (w .wide-as .ensures) (c .before .if1 .taken) in
+    c .number .ensures .0 ∙ rw (found w .peer-as-at .ensures) (rw s at (e .number))
 
 number-requires-2 : tie.Need-number-requires-2
-number-requires-2 c κs = let q = c .before .before .before .before in let e = there q in let s = narrow-size (kind q) _ (c .before .wide-as .ensures) (c .if1 .left) in (search needs, omega (arith, e .room, c .before .before .before .peer-as-at .ensures))
+number-requires-2 c κs =
+    let w = c .before in
+    let q = found w .before in
+    let e = there q in
+    let s = narrow-size (kind q) _ (w .wide-as .ensures) (c .if1 .left) in
+    (search needs, omega (arith, e .room, found w .peer-as-at .ensures))
 
 returns-2 : tie.Need-returns-2
-returns-2 c = let q = c .before .before .before .before .before in let e = there q in let s = narrow-size (kind q) _ (c .before .before .wide-as .ensures) (c .before .if1 .left) in
-    c .number2 .ensures .0 ∙ rw (c .before .before .before .before .peer-as-at .ensures) (rw s at (e .number))
+returns-2 c =
+    let w = c .before .before in
+    let q = found w .before in
+    let e = there q in
+    let s = narrow-size (kind q) _ (w .wide-as .ensures) (c .before .if1 .left) in
+    c .number2 .ensures .0 ∙ rw (found w .peer-as-at .ensures) (rw s at (e .number))
 
 pub peer-as-spec : {M : Type 1} → statement M
 peer-as-spec =

@@ -11,6 +11,10 @@ use borrow.Author.Needs.{needs}
 use Rattle.look.proofs.peer_end.Statement.{statement}
 use Rattle.look.proofs.peer_end.Tie as tie
 
+-- where its AS number starts, and what is known of the dump before
+abbrev found : (c : tie.After-wide-as) → tie.After-peer-as-at
+found c = c .before .before
+
 -- its type octet
 abbrev kind : tie.After-shared-slice-known → ℕ
 kind c = let a = c .before .args in getD (a .d .now) (a .at) 0
@@ -28,18 +32,24 @@ wide-as-requires : tie.Need-wide-as-requires
 wide-as-requires c κs = search needs
 
 add-result : tie.Need-add-result
-add-result c = omega (arith, c .before .before .before .peer-as-at .ensures, small-address (kind (c .before .before .before .before)))
+add-result c = let f = found (c .before) in omega (arith, f .peer-as-at .ensures, small-address (kind (f .before)))
 
 returns : tie.Need-returns
-returns c = let q = c .before .before .before .before in let p = c .before .before .before .peer-as-at .ensures in let s = wide-size (kind q) _ (c .before .wide-as .ensures) (c .if1 .taken) in
-    rw p (rw s, λ h. let e = there q h in (rw s at (e .end), rw s at (e .room)))
+returns c =
+    let w = c .before in
+    let q = found w .before in
+    let s = wide-size (kind q) _ (w .wide-as .ensures) (c .if1 .taken) in
+    rw (found w .peer-as-at .ensures) (rw s, λ h. let e = there q h in (rw s at (e .end), rw s at (e .room)))
 
 add-result-2 : tie.Need-add-result-2
-add-result-2 c = omega (arith, c .before .before .before .peer-as-at .ensures, small-address (kind (c .before .before .before .before)))
+add-result-2 c = let f = found (c .before) in omega (arith, f .peer-as-at .ensures, small-address (kind (f .before)))
 
 returns-2 : tie.Need-returns-2
-returns-2 c = let q = c .before .before .before .before in let p = c .before .before .before .peer-as-at .ensures in let s = narrow-size (kind q) _ (c .before .wide-as .ensures) (c .if1 .left) in
-    rw p (rw s, λ h. let e = there q h in (rw s at (e .end), rw s at (e .room)))
+returns-2 c =
+    let w = c .before in
+    let q = found w .before in
+    let s = narrow-size (kind q) _ (w .wide-as .ensures) (c .if1 .left) in
+    rw (found w .peer-as-at .ensures) (rw s, λ h. let e = there q h in (rw s at (e .end), rw s at (e .room)))
 
 pub peer-end-spec : {M : Type 1} → statement M
 peer-end-spec =

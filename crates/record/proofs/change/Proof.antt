@@ -1,45 +1,45 @@
--- `record::change` meets its contract. Assumes nothing.
-use Rattle.reading.specs.One.{shownAs}
-use Rattle.record.proofs.Laws.{behind-value, behind-short}
+-- `record::change` meets its contract: what stands behind the header and its microseconds.
+use mathlib.Core.Path.{_≡_, _∙_}
+use denote.Ref.{now}
+use Rattle.form.specs.Pass.{whole}
+use Rattle.page.specs.Bgp4mp.{session, stateChange}
+use Rattle.shown.specs.Fields as show
+use Rattle.shown.specs.declared.Shown.the-variants.{Refused}
+use Rattle.reading.specs.One.{shownChange}
+use Rattle.record.specs.declared.Stamp.{Stamp}
+use Rattle.record.proofs.Laws.{onward, stamped}
 use borrow.Author.Needs.{needs}
 use Rattle.record.proofs.change.Statement.{statement}
 use Rattle.record.proofs.change.Tie as tie
 
-micro-at-requires : tie.Need-micro-at-requires
-micro-at-requires c κs = search needs
+-- the answer, whatever the header was read as
+answers : (c : tie.After-stamp-at) → let a = c .before .before .args in (x : Stamp) → c .stamp-at .result ≡ x
+    → onward (now (a .m)) (λ h at. whole (show.change h) Refused (session (a .width) stateChange) (now (a .m)) at) x ≡ shownChange (now (a .m)) (a .micro) (a .width)
+answers c x q = stamped _ _ _ (c .stamp-at .ensures) q
 
-enum-known-u : tie.Need-enum-known-u
-enum-known-u c = search needs
+-- where it was read
+abbrev read-at : tie.After-known-told → tie.After-stamp-at
+read-at c = c .before .before .before
+
+stamp-at-requires : tie.Need-stamp-at-requires
+stamp-at-requires c κs = search needs
+
+enum-known-h : tie.Need-enum-known-h
+enum-known-h c = search needs
 
 enum-told : tie.Need-enum-told
 enum-told c = search needs
 
 returns : tie.Need-returns
-unfolding shownAs
-returns c = behind-short _ _ _ (c .before .before .micro-at .ensures .0) (c .enum-told .given .1)
-
-cast-header-of : tie.Need-cast-header-of
-cast-header-of c = let s = rw (c .before .u .given .1) at (c .before .before .before .micro-at .ensures .1) in search needs
-
-header-of-requires : tie.Need-header-of-requires
-header-of-requires c κs = search needs
+returns c = answers (c .before .before) _ (c .enum-told .given .1)
 
 state-change-requires : tie.Need-state-change-requires
 state-change-requires c κs = search needs
 
 returns-2 : tie.Need-returns-2
-unfolding shownAs
-returns-2 c = behind-value _ _ _ (c .before .before .before .before .before .micro-at .ensures .0) _ _ _ (c .before .before .before .u .given .1) (rw (c .before .header-of .ensures) at (c .state-change .ensures))
+returns-2 c = c .state-change .ensures ∙ answers (read-at (c .before)) _ (c .before .before .h .given .1)
 
 pub change-spec : {M : Type 1} → statement M
 change-spec =
     tie.close
-    (tie.spec
-    micro-at-requires
-    enum-known-u
-    enum-told
-    returns
-    cast-header-of
-    header-of-requires
-    state-change-requires
-    returns-2)
+    (tie.spec stamp-at-requires enum-known-h enum-told returns state-change-requires returns-2)

@@ -4,7 +4,7 @@ use mathlib.Core.Path.{_≡_, refl, _∙_}
 use native.Mathlib.Omega.{arith}
 use Rattle.flow.proofs.Items.{goes, goes-on, stays, over, done}
 use Rattle.page.specs.Rib.{entry}
-use Rattle.shown.specs.Told as show
+use Rattle.shown.specs.Fields as show
 use Rattle.shown.specs.declared.Entry.the-variants.{Bad}
 use Rattle.shown.specs.declared.Shown.the-variants.{Refused}
 use Rattle.rib.proofs.Laws.{onward, goes-to, stops}
@@ -18,6 +18,14 @@ Inv-loop m from count peers s at₀ left₀ at left =
 
 abbrev μ-loop : tie.MeasureT-loop
 μ-loop m from count peers s at₀ left₀ at left = left
+
+-- the turn that has read its entry
+abbrev turn : (c : tie.After-entry-at Inv-loop μ-loop) → tie.At-loop Inv-loop μ-loop
+turn c = c .before .before
+
+-- the call, where the loop is over
+abbrev start : (c : tie.After-loop Inv-loop μ-loop) → tie.Start Inv-loop μ-loop
+start c = c .before .before .before
 
 loop-holds : tie.Need-loop-holds Inv-loop μ-loop
 loop-holds c = refl
@@ -33,8 +41,9 @@ enum-known-n c = search needs
 
 returns : tie.Need-returns Inv-loop μ-loop
 returns c =
-    let l = c .before .before .before .before .before .loop in
-    stays show.entry Bad Refused onward goes-to stops _ _ _ (l .left) (l .at) _ _ _ (c .before .before .before .entry-at .ensures) (c .before .n .given .1) (search needs) ∙ l .inv
+    let k = c .before .before .before in
+    let l = turn k .loop in
+    stays show.entry Bad Refused onward goes-to stops _ _ _ (l .left) (l .at) _ _ _ (k .entry-at .ensures) (c .before .n .given .1) (search needs) ∙ l .inv
 
 sub-left : tie.Need-sub-left Inv-loop μ-loop
 sub-left c = search needs
@@ -44,19 +53,20 @@ loop-less c = search needs
 
 loop-again : tie.Need-loop-again Inv-loop μ-loop
 loop-again c =
-    let l = c .before .before .before .before .before .loop in
-    goes-on show.entry Bad Refused onward goes-to stops _ _ _ (l .left) (l .at) _ _ _ (c .before .before .before .entry-at .ensures) (c .before .next .given .1) (λ f. refl) (search needs) ∙ l .inv
+    let k = c .before .before .before in
+    let l = turn k .loop in
+    goes-on show.entry Bad Refused onward goes-to stops _ _ _ (l .left) (l .at) _ _ _ (k .entry-at .ensures) (c .before .next .given .1) (λ f. refl) (search needs) ∙ l .inv
 
 returns-2 : tie.Need-returns-2 Inv-loop μ-loop
 returns-2 c =
     let l = c .before .before .loop in
-    let a = c .before .before .before .before .args in
+    let a = start (c .before) .args in
     over show.entry Bad Refused onward goes-to stops (entry (a .peers)) (a .s) (now (a .m)) (l .left) (l .at) (omega arith) (c .if1 .taken) ∙ l .inv
 
 returns-3 : tie.Need-returns-3 Inv-loop μ-loop
 returns-3 c =
     let l = c .before .before .loop in
-    let a = c .before .before .before .before .args in
+    let a = start (c .before) .args in
     done show.entry Bad Refused onward goes-to stops (entry (a .peers)) (a .s) (now (a .m)) (l .left) (l .at) (omega arith) (c .if1 .left) ∙ l .inv
 
 pub entries-at-spec : {M : Type 1} → statement M

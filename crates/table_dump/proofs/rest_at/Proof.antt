@@ -6,6 +6,19 @@ use borrow.Author.Needs.{needs}
 use Rattle.table_dump.proofs.rest_at.Statement.{statement}
 use Rattle.table_dump.proofs.rest_at.Tie as tie
 
+-- from each field to the one before it
+abbrev at-peer : (c : tie.After-n) → tie.After-peer
+at-peer c = c .before .before .before .before
+
+abbrev at-d : (c : tie.After-peer) → tie.After-d
+at-d c = c .before .before .before .before
+
+abbrev at-originated : (c : tie.After-d) → tie.After-originated
+at-originated c = c .before .before .before .before
+
+abbrev at-status : (c : tie.After-originated) → tie.After-status
+at-status c = c .before .before .before .before
+
 field-requires : tie.Need-field-requires
 field-requires c κs = search needs
 
@@ -77,21 +90,21 @@ attributes-at-requires c κs = search needs
 returns-6 : tie.Need-returns-6
 unfolding tableDumpRest attributes
 returns-6 c =
-    let at-n = c .before .before in
-    let at-peer = at-n .before .before .before .before in
-    let at-d = at-peer .before .before .before .before in
-    let at-originated = at-d .before .before .before .before in
-    let at-status = at-originated .before .before .before .before in
-    let n = at-n .n .given .1 in
-    let n-read = at-n .before .before .field4 .ensures in
-    let peer = at-peer .peer .given .1 in
-    let peer-read = at-peer .before .before .field3 .ensures in
-    let d = at-d .d .given .1 in
-    let d-read = at-d .before .before .skip .ensures in
-    let originated = at-originated .originated .given .1 in
-    let originated-read = at-originated .before .before .field2 .ensures in
-    let status = at-status .status .given .1 in
-    let status-read = at-status .before .before .field .ensures in
+    let n = c .before .before in
+    let peer = at-peer n in
+    let d = at-d peer in
+    let originated = at-originated d in
+    let status = at-status originated in
+    let n-is = n .n .given .1 in
+    let n-read = n .before .before .field4 .ensures in
+    let peer-is = peer .peer .given .1 in
+    let peer-read = peer .before .before .field3 .ensures in
+    let d-is = d .d .given .1 in
+    let d-read = d .before .before .skip .ensures in
+    let originated-is = originated .originated .given .1 in
+    let originated-read = originated .before .before .field2 .ensures in
+    let status-is = status .status .given .1 in
+    let status-read = status .before .before .field .ensures in
     let told = c .attributes-at .ensures in
     search flow depth 14
 

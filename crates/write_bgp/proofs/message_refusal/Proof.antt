@@ -4,7 +4,8 @@ use denote.Ref.{now}
 use Rattle.shown.specs.declared.Part.{Part}
 use Rattle.shown.specs.declared.Header.{Header}
 use Rattle.shown.specs.declared.Session.{Session}
-use Rattle.writing.proofs.Items.{refusedWith, not-refused}
+use Rattle.reading.specs.Answer.{fault}
+use Rattle.writing.proofs.Items.{not-refused}
 use Rattle.write_bgp.proofs.Judged.{judged}
 use borrow.Author.Needs.{needs}
 use Rattle.write_bgp.proofs.message_refusal.Statement.{statement}
@@ -27,10 +28,12 @@ enum-known-n : tie.Need-enum-known-n
 enum-known-n c = search needs
 
 returns : tie.Need-returns
-returns c = sym (not-refused (c .before .message-at .result) (c .match .keys2)) ∙ judged header session (now (c .before .before .before .args .b)) _ (c .before .message-at .ensures)
+returns c = sym (not-refused (c .before .message-at .result) (c .match .keys2)) ∙ judged _ header session (now (c .before .before .before .args .b)) _ (c .before .message-at .ensures)
 
 returns-2 : tie.Need-returns-2
-returns-2 c = sym (ap refusedWith (c .before .n .given .1)) ∙ judged header session (now (c .before .before .before .before .before .args .b)) _ (c .before .before .before .message-at .ensures)
+returns-2 c =
+    let s : tie.Start = search needs in
+    sym (ap fault (c .before .n .given .1)) ∙ judged _ header session (now (s .args .b)) _ (c .before .before .before .message-at .ensures)
 
 pub message-refusal-spec : {M : Type 1} → statement M
 message-refusal-spec = tie.close (tie.spec message-at-requires enum-known-n returns returns-2)

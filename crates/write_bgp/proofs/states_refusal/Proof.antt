@@ -35,7 +35,7 @@ returns-5 c = search put-flow depth 12
 
 returns-6 : tie.Need-returns-6
 unfolding stateChange state
-returns-6 c = let h : 6 < c .before .before .before .before .before .before .before .before .args .new = omega arith in search put-flow depth 12
+returns-6 c = let s : tie.Start = search needs in let h : 6 < s .args .new = omega arith in search put-flow depth 12
 
 returns-7 : tie.Need-returns-7
 unfolding stateChange state

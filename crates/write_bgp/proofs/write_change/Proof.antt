@@ -1,21 +1,23 @@
--- `write_bgp::write_change` meets its contract: header, microseconds, session, states. Assumes nothing.
+-- `write_bgp::write_change` meets its contract: header, microseconds, session, states.
 use mathlib.Core.Path.{_≡_, refl, sym, ap, _∙_}
-use mathlib.Core.List.{List, [], append-assoc, append-nil}
-use Prim.Native.Nat.{ℕ, _+_, _^_, _≤_, _<_}
+use mathlib.Core.List.{List, append-assoc, append-nil}
+use Prim.Native.Nat.{ℕ, _+_, _≤_}
 use native.Mathlib.Omega.{arith}
 use denote.Ref.{now}
 use lib.ListN.{length}
 use Rattle.form.specs.Put.{Given, message}
 use Rattle.form.specs.Shape.{noTable}
 use Rattle.copy.specs.Over.{over}
-use Rattle.writing.specs.Times.{microOf, micros}
-use Rattle.writing.specs.Only.{onlySub, changes}
-use Rattle.writing.specs.Givens.{sessionValues, stateValues, changeGiven}
+use Rattle.page.specs.Layout.{kind}
+use Rattle.writing.specs.Times.{micros, bgp4mp}
+use Rattle.writing.specs.Only.{onlySub, changes, asOctets}
+use Rattle.writing.specs.Givens.{stateValues, changeGiven}
 use Rattle.writing.specs.Verdict.{capped}
 use Rattle.writing.proofs.Sums.{summed}
-use Rattle.writing.proofs.Answers.{refuses, Goes, goes, done, micros-long}
-use Rattle.writing.proofs.Laid.{none, values, number}
-use Rattle.write_bgp.proofs.Laws.{micro-small, opening-long, states-long, behind-long}
+use Rattle.writing.proofs.Answers.{refuses, Goes, goes, done}
+use Rattle.writing.proofs.Laid.{none, values}
+use Rattle.write_bgp.specs.Opening.{openingValues, openingSize}
+use Rattle.write_bgp.proofs.Laws.{states-long, opened-long, behind-long}
 use borrow.Author.Needs.{needs}
 use Rattle.write_bgp.proofs.write_change.Statement.{statement}
 use Rattle.write_bgp.proofs.write_change.Tie as tie
@@ -26,38 +28,11 @@ change-refusal-requires c κs = search needs
 width-of-requires : tie.Need-width-of-requires
 width-of-requires c κs = search needs
 
-micro-requires : tie.Need-micro-requires
-micro-requires c κs = search needs
-
-mul-add : tie.Need-mul-add
-mul-add c = search needs
-
-abbrev given : tie.Start → Given
-given s =
-    let a = s .args in
-    changeGiven (a .time) (a .subtype) (a .peer) (a .local) (a .interface) (a .family) (now (a .theirs)) (now (a .ours)) (a .old) (a .new)
-
-add-add : tie.Need-add-add
-add-add c = let m = micro-small (c .before .before .before .before .before .before .args .time) in search needs
-
-add-add-2 : tie.Need-add-add-2
-add-add-2 c = let m = micro-small (c .before .before .before .before .before .before .args .time) in search needs
+opening-size-requires : tie.Need-opening-size-requires
+opening-size-requires c κs = search needs
 
 add-requires : tie.Need-add-requires
 add-requires c κs = search needs
-
-add-requires-2 : tie.Need-add-requires-2
-add-requires-2 c κs = search needs
-
--- the message's length, as it is added up
-sized : (c : tie.After-add2) → c .add2 .result ≡ capped (length (message (given (c .before .before .before .before .before .before .before .before))))
-sized c =
-    let a = c .before .before .before .before .before .before .before .before .args in
-    let m = c .before .before .micro .ensures in
-    let w = c .before .before .before .width-of .ensures .0 in
-    let l = behind-long (a .time) (a .subtype) (a .peer) (a .local) (a .interface) (a .family) (now (a .theirs)) (now (a .ours)) (stateValues (a .old) (a .new)) in
-    let b = states-long (a .old) (a .new) in
-    summed _ _ _ _ (c .before .add .ensures) (c .add2 .ensures) ∙ ap capped (omega arith)
 
 verdict-requires : tie.Need-verdict-requires
 verdict-requires c κs = search needs
@@ -68,70 +43,85 @@ enum-told c = search needs
 enum-told-2 : tie.Need-enum-told-2
 enum-told-2 c = search needs
 
-returns : tie.Need-returns
-returns c =
-    refuses _ _ (given (c .before .before .before .before .before .before .before .before .before .before .before)) (now (c .before .before .before .before .before .before .before .before .before .before .before .args .out)) _ _ _ _ (c .before .before .before .before .before .before .before .change-refusal .ensures) (sized (c .before .before .before)) refl (c .before .before .verdict .ensures) _ (c .enum-told2 .given .1)
-
--- the record goes into the buffer
-fine : (c : tie.After-enum-told) → Goes (onlySub changes 4096) noTable (given (c .before .before .before .before .before .before .before .before .before .before .before)) (now (c .before .before .before .before .before .before .before .before .before .before .before .args .out)) (c .before .before .before .add2 .result) (c .before .before .verdict .result)
-fine c = goes _ _ _ _ _ _ _ _ (c .before .before .before .before .before .before .before .change-refusal .ensures) (sized (c .before .before .before)) refl (c .before .before .verdict .ensures) _ (c .enum-told .given .1)
-
-space : (c : tie.After-enum-told) → 12 + (microOf (c .before .before .before .before .before .before .before .before .before .before .before .args .time) + (c .before .before .before .before .before .before .width-of .result + (c .before .before .before .before .before .before .width-of .result + (8 + (length (now (c .before .before .before .before .before .before .before .before .before .before .before .args .theirs)) + length (now (c .before .before .before .before .before .before .before .before .before .before .before .args .ours))))))) ≤ length (now (c .before .before .before .before .before .before .before .before .before .before .before .args .out))
-space c =
-    let a = c .before .before .before .before .before .before .before .before .before .before .before .args in
-    let w = c .before .before .before .before .before .before .width-of .ensures .0 in
-    let l = behind-long (a .time) (a .subtype) (a .peer) (a .local) (a .interface) (a .family) (now (a .theirs)) (now (a .ours)) (stateValues (a .old) (a .new)) in
-    let b = states-long (a .old) (a .new) in
-    omega (arith, fine c .space)
-
-bound : (c : tie.After-enum-told) → length (now (c .before .before .before .before .before .before .before .before .before .before .before .args .out)) < 2 ^ 64
-bound c = search needs
-
 seconds-requires : tie.Need-seconds-requires
 seconds-requires c κs = search needs
 
 bgp-type-requires : tie.Need-bgp-type-requires
 bgp-type-requires c κs = search needs
 
-put-head-requires : tie.Need-put-head-requires
-put-head-requires c κs = let s = space (c .before .before .before) in search needs
-
-put-micros-requires : tie.Need-put-micros-requires
-put-micros-requires c κs = let s = space (c .before .before .before .before .before .before .before) in search needs
-
-put-session-requires : tie.Need-put-session-requires
-put-session-requires c κs = let s = space (c .before .before .before .before .before .before .before .before .before .before .before) in let i = c .before .before .before .put-micros .ensures .0 in search needs
-
-put-number-requires : tie.Need-put-number-requires
-put-number-requires c κs = let s = space (c .before .before .before .before .before .before .before .before .before .before .before .before .before .before .before) in let i = c .before .before .before .before .before .before .before .put-micros .ensures .0 in let j = c .before .before .before .put-session .ensures .0 in search needs
-
-add-put-number : tie.Need-add-put-number
-add-put-number c = let q = bound (c .before .before .before .before .before .before .before .before .before .before .before .before .before .before .before .before .before .before .before) in let s = space (c .before .before .before .before .before .before .before .before .before .before .before .before .before .before .before .before .before .before .before) in let i = c .before .before .before .before .before .before .before .before .before .before .before .put-micros .ensures .0 in let j = c .before .before .before .before .before .before .before .put-session .ensures .0 in search needs
-
-put-number-requires-2 : tie.Need-put-number-requires-2
-put-number-requires-2 c κs = let s = space (c .before .before .before .before .before .before .before .before .before .before .before .before .before .before .before .before .before .before .before) in let i = c .before .before .before .before .before .before .before .before .before .before .before .put-micros .ensures .0 in let j = c .before .before .before .before .before .before .before .put-session .ensures .0 in search needs
-
 same-length : tie.Need-same-length
 same-length c = search needs
 
+-- ---- the verdict
+
+abbrev called : tie.After-verdict → tie.Start
+called c = c .before .before .before .before .before .before .before .before
+
+abbrev given : tie.After-verdict → Given
+given c = let a = called c .args in changeGiven (a .time) (a .subtype) (a .peer) (a .local) (a .interface) (a .family) (now (a .theirs)) (now (a .ours)) (a .old) (a .new)
+
+-- octets of an AS number
+abbrev width : tie.After-verdict → ℕ
+width c = c .before .before .before .width-of .result
+
+is-width : (c : tie.After-verdict) → let a = called c .args in width c ≡ asOctets (kind (bgp4mp (a .time)) (a .subtype))
+is-width c = c .before .before .before .width-of .ensures .0
+
+long : (c : tie.After-verdict) → let a = called c .args in openingSize (a .time) (width c) (now (a .theirs)) (now (a .ours)) + 4 ≡ length (message (given c))
+long c =
+    let a = called c .args in
+    let w = is-width c in
+    let l = states-long (a .old) (a .new) in
+    let b = behind-long (a .time) (asOctets (kind (bgp4mp (a .time)) (a .subtype))) (a .peer) (a .local) (a .interface) (a .family) (now (a .theirs)) (now (a .ours)) (stateValues (a .old) (a .new)) (a .subtype) in
+    omega arith
+
+sized : (c : tie.After-verdict) → c .before .add .result ≡ capped (length (message (given c)))
+sized c = summed _ _ _ _ (c .before .before .opening-size .ensures) (c .before .add .ensures) ∙ ap capped (long c)
+
+-- where the fields were judged
+abbrev judged : tie.After-verdict → tie.After-change-refusal
+judged c = c .before .before .before .before
+
+returns : tie.Need-returns
+returns c =
+    let v : tie.After-verdict = c .before .before in
+    refuses _ _ (given v) (now (called v .args .out)) _ _ _ _ (judged v .change-refusal .ensures _) (sized v) refl (v .verdict .ensures) _ _ (c .enum-told2 .given .1)
+
+-- ---- the record goes into the buffer
+
+fine : (longest : ℕ) (c : tie.After-enum-told) → let v = c .before .before in
+    Goes (onlySub changes longest) noTable (given v) (now (called v .args .out)) (v .before .add .result) (v .verdict .result)
+fine longest c =
+    let v : tie.After-verdict = c .before .before in
+    goes _ noTable (given v) (now (called v .args .out)) _ _ _ _ (judged v .change-refusal .ensures longest) (sized v) refl (v .verdict .ensures) _ (c .enum-told .given .1)
+
+room : (c : tie.After-enum-told) → let v = c .before .before in let a = called v .args in
+    12 + (openingSize (a .time) (width v) (now (a .theirs)) (now (a .ours)) + 4) ≤ length (now (a .out))
+room c = rw (long (c .before .before)) (fine 0 c .space)
+
+put-head-requires : tie.Need-put-head-requires
+put-head-requires c κs = let r = room (search needs) in search needs
+
+put-opening-requires : tie.Need-put-opening-requires
+put-opening-requires c κs = let r = room (search needs) in search needs
+
+put-states-requires : tie.Need-put-states-requires
+put-states-requires c κs = let r = room (search needs) in let e = c .before .before .before .put-opening .ensures .0 in search needs
+
 returns-2 : tie.Need-returns-2
 returns-2 c =
-    let told = c .before .before .before .before .before .before .before .before .before .before .before .before .before .before .before .before .before .before .before .before .before .before in
-    let a = told .before .before .before .before .before .before .before .before .before .before .before .args in
-    let s = space told in
-    let kept = c .before .before .before .before .before .before .before .before .before .before .before .before .before .before .before .before .before .before .put-head .kept in
-    let known = c .before .before .before .before .before .before .before .before .before .before .before .before .before .before .before .before .slice-known2 .given in
-    let head = rw (c .before .before .before .before .before .before .before .before .before .before .before .before .before .before .before .before .before .before .before .before .seconds .ensures, c .before .before .before .before .before .before .before .before .before .before .before .before .before .before .before .before .before .before .before .bgp-type .ensures) at (c .before .before .before .before .before .before .before .before .before .before .before .before .before .before .before .before .before .before .put-head .ensures) in
-    let w = c .before .before .before .before .before .before .before .before .before .before .before .before .before .before .before .before .before .before .before .before .before .before .before .before .before .before .before .before .width-of in
-    let y = opening-long (w .result) (a .peer) (a .local) (a .interface) (a .family) (now (a .theirs)) (now (a .ours)) in
-    let i = c .before .before .before .before .before .before .before .before .before .before .before .before .before .before .put-micros .ensures .0 in
-    let j = c .before .before .before .before .before .before .before .before .before .before .put-session .ensures .0 in
-    let h : List ℕ = c .before .before .before .before .before .before .before .before .before .before .before .before .before .before .before .before .before .before .put-head .last .0 in
-    let x1 = values (none h 12 (search needs)) (micros (a .time)) (microOf (a .time)) (micros-long (a .time)) (c .before .before .before .before .before .before .before .before .before .before .before .before .before .before .put-micros .ensures .1) (omega arith) (search needs) in
-    let x2 = values x1 (sessionValues (w .result) (a .peer) (a .local) (a .interface) (a .family) (now (a .theirs)) (now (a .ours)) []) _ y (c .before .before .before .before .before .before .before .before .before .before .put-session .ensures .1) (omega arith) (search needs) in
-    let x3 = number x2 2 (a .old) (c .before .before .before .before .before .before .put-number .ensures) (omega arith) (search needs) in
-    let x4 = number x3 2 (a .new) (c .before .before .put-number2 .ensures) (omega arith) (search needs) in
-    done _ _ _ _ _ _ _ _ (fine told) head (x4 .is ∙ ap (over h 12) (rw (sym (w .ensures .0), append-assoc (micros (a .time)), append-assoc (micros (a .time))) (simp append-nil)))
+    let opening : tie.After-put-opening = search needs in
+    let head : tie.After-put-head = search needs in
+    let k : tie.After-enum-told = search needs in
+    let v : tie.After-verdict = k .before .before in
+    let a = called v .args in
+    let r = room k in
+    let at = opening .put-opening .ensures .0 in
+    let h : List ℕ = head .put-head .last .0 in
+    let x1 = values (none h 12 (search needs)) (openingValues (a .time) (width v) (a .peer) (a .local) (a .interface) (a .family) (now (a .theirs)) (now (a .ours))) _ (opened-long (a .time) (width v) (a .peer) (a .local) (a .interface) (a .family) (now (a .theirs)) (now (a .ours))) (opening .put-opening .ensures .1) (omega arith) (search needs) in
+    let x2 = values x1 (stateValues (a .old) (a .new)) 4 (states-long (a .old) (a .new)) (c .before .before .put-states .ensures) (omega arith) (search needs) in
+    let headed = rw (head .before .before .seconds .ensures, head .before .bgp-type .ensures) at (head .put-head .ensures) in
+    done _ _ _ _ _ _ _ _ (fine _ k) headed (x2 .is ∙ ap (over h 12) (rw (sym (is-width v), append-assoc (micros (a .time))) (simp append-nil)))
 
 pub write-change-spec : {M : Type 1} → statement M
 write-change-spec =
@@ -139,12 +129,8 @@ write-change-spec =
     (tie.spec
     change-refusal-requires
     width-of-requires
-    micro-requires
-    mul-add
-    add-add
-    add-add-2
+    opening-size-requires
     add-requires
-    add-requires-2
     verdict-requires
     enum-told
     enum-told-2
@@ -152,10 +138,7 @@ write-change-spec =
     seconds-requires
     bgp-type-requires
     put-head-requires
-    put-micros-requires
-    put-session-requires
-    put-number-requires
-    add-put-number
-    put-number-requires-2
+    put-opening-requires
+    put-states-requires
     same-length
     returns-2)

@@ -2,7 +2,8 @@
 use mathlib.Core.Path.{sym, ap, _∙_}
 use denote.Ref.{now}
 use Rattle.page.specs.Peers.{peer}
-use Rattle.writing.proofs.Items.{refusedWith, not-refused, count-large, items-judged}
+use Rattle.reading.specs.Answer.{fault}
+use Rattle.writing.proofs.Items.{not-refused, count-large, items-judged}
 use borrow.Author.Needs.{needs}
 use Rattle.write_peers.proofs.peers_refusal.Statement.{statement}
 use Rattle.write_peers.proofs.peers_refusal.Tie as tie
@@ -21,13 +22,16 @@ enum-known-n c = search needs
 
 returns-2 : tie.Need-returns-2
 returns-2 c =
-    let a = c .before .before .before .before .before .args in
+    let s : tie.Start = search needs in
+    let a = s .args in
     sym (not-refused (c .before .peers-at .result) (c .match .keys2)) ∙ items-judged peer (a .count) (now (a .peers)) _ _ (c .before .before .before .large .ensures) (c .before .before .if1 .left) (c .before .peers-at .ensures)
 
 returns-3 : tie.Need-returns-3
 returns-3 c =
-    let a = c .before .before .before .before .before .before .before .args in
-    sym (ap refusedWith (c .before .n .given .1)) ∙ items-judged peer (a .count) (now (a .peers)) _ _ (c .before .before .before .before .before .large .ensures) (c .before .before .before .before .if1 .left) (c .before .before .before .peers-at .ensures)
+    let s : tie.Start = search needs in
+    let e : tie.Else1 = search needs in
+    let a = s .args in
+    sym (ap fault (c .before .n .given .1)) ∙ items-judged peer (a .count) (now (a .peers)) _ _ (e .before .large .ensures) (e .if1 .left) (c .before .before .before .peers-at .ensures)
 
 pub peers-refusal-spec : {M : Type 1} → statement M
 peers-refusal-spec =

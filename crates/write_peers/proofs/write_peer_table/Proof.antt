@@ -1,6 +1,6 @@
--- `write_peers::write_peer_table` meets its contract: what it is given, its size, and what is known once it may write. Assumes nothing.
+-- `write_peers::write_peer_table` meets its contract: what it is given, its size, and what is known once it may write.
 use mathlib.Core.Path.{_≡_, refl, ap, _∙_}
-use Prim.Native.Nat.{_+_, _≤_}
+use Prim.Native.Nat.{ℕ, _+_}
 use denote.Ref.{now}
 use lib.ListN.{length}
 use Rattle.form.specs.Put.{Given, message}
@@ -10,22 +10,10 @@ use Rattle.writing.specs.Givens.{peerTableGiven}
 use Rattle.writing.specs.Verdict.{capped}
 use Rattle.writing.proofs.Sums.{summed}
 use Rattle.writing.proofs.Answers.{refuses, Goes, goes, done}
-use Rattle.write_peers.proofs.Laws.{table-length, table-laid}
+use Rattle.write_peers.proofs.Laws.{table-length}
 use borrow.Author.Needs.{needs}
 use Rattle.write_peers.proofs.write_peer_table.Statement.{statement}
 use Rattle.write_peers.proofs.write_peer_table.Tie as tie
-
-abbrev given : tie.After-verdict → Given
-given c = let a = c .before .before .before .before .before .before .before .args in peerTableGiven (a .timestamp) (a .collector) (now (a .name)) (a .count) (now (a .peers))
-
-long : (c : tie.After-verdict) → 8 + length (now (c .before .before .before .before .before .before .before .args .name)) + length (now (c .before .before .before .before .before .before .before .args .peers)) ≡ length (message (given c))
-long c = let a = c .before .before .before .before .before .before .before .args in table-length (a .timestamp) (a .collector) (now (a .name)) (a .count) (now (a .peers))
-
-sized : (c : tie.After-verdict) → c .before .add2 .result ≡ capped (length (message (given c)))
-sized c = summed _ _ _ _ (c .before .before .add .ensures) (c .before .add2 .ensures) ∙ ap capped (long c)
-
-fine : (c : tie.After-enum-told) → Goes (onlySub peerTables 4096) noTable (given (c .before .before)) (now (c .before .before .before .before .before .before .before .before .before .args .out)) (c .before .before .before .add2 .result) (c .before .before .verdict .result)
-fine c = goes (onlySub peerTables 4096) noTable (given (c .before .before)) (now (c .before .before .before .before .before .before .before .before .before .args .out)) _ _ _ _ (c .before .before .before .before .before .table-refusal .ensures) (sized (c .before .before)) refl (c .before .before .verdict .ensures) _ (c .enum-told .given .1)
 
 table-refusal-requires : tie.Need-table-refusal-requires
 table-refusal-requires c κs = search needs
@@ -45,45 +33,51 @@ enum-told c = search needs
 enum-told-2 : tie.Need-enum-told-2
 enum-told-2 c = search needs
 
-returns : tie.Need-returns
-returns c = refuses (onlySub peerTables 4096) noTable (given (c .before .before)) (now (c .before .before .before .before .before .before .before .before .before .args .out)) _ _ _ _ (c .before .before .before .before .before .table-refusal .ensures) (sized (c .before .before)) refl (c .before .before .verdict .ensures) _ (c .enum-told2 .given .1)
-
-add-a : tie.Need-add-a
-add-a c = let s = fine c .space in let l = long (c .before .before) in search needs
-
-add-b : tie.Need-add-b
-add-b c = let s = fine c .space in let l = long (c .before .before) in search needs
-
-put-head-requires : tie.Need-put-head-requires
-put-head-requires c κs = let s = fine (c .before) .space in search needs
-
-put-number-requires : tie.Need-put-number-requires
-put-number-requires c κs = let s = fine (c .before .before .before .before .before) .space in let l = long (c .before .before .before .before .before .before .before) in search needs
-
-put-number-requires-2 : tie.Need-put-number-requires-2
-put-number-requires-2 c κs = let s = fine (c .before .before .before .before .before .before .before .before .before) .space in let l = long (c .before .before .before .before .before .before .before .before .before .before .before) in search needs
-
-put-bytes-requires : tie.Need-put-bytes-requires
-put-bytes-requires c κs = let s = fine (c .before .before .before .before .before .before .before .before .before .before .before .before .before) .space in let l = long (c .before .before .before .before .before .before .before .before .before .before .before .before .before .before .before) in search needs
-
-put-number-requires-3 : tie.Need-put-number-requires-3
-put-number-requires-3 c κs = let s = fine (c .before .before .before .before .before .before .before .before .before .before .before .before .before .before .before .before .before) .space in let l = long (c .before .before .before .before .before .before .before .before .before .before .before .before .before .before .before .before .before .before .before) in search needs
-
-put-bytes-requires-2 : tie.Need-put-bytes-requires-2
-put-bytes-requires-2 c κs = let s = fine (c .before .before .before .before .before .before .before .before .before .before .before .before .before .before .before .before .before .before .before .before .before) .space in let l = long (c .before .before .before .before .before .before .before .before .before .before .before .before .before .before .before .before .before .before .before .before .before .before .before) in search needs
-
 same-length : tie.Need-same-length
 same-length c = search needs
 
+-- ---- the verdict
+
+abbrev called : tie.After-verdict → tie.Start
+called c = c .before .before .before .before .before .before .before
+
+abbrev given : tie.After-verdict → Given
+given c = let a = called c .args in peerTableGiven (a .timestamp) (a .collector) (now (a .name)) (a .count) (now (a .peers))
+
+long : (c : tie.After-verdict) → let a = called c .args in 8 + length (now (a .name)) + length (now (a .peers)) ≡ length (message (given c))
+long c = let a = called c .args in table-length (a .timestamp) (a .collector) (now (a .name)) (a .count) (now (a .peers))
+
+sized : (c : tie.After-verdict) → c .before .add2 .result ≡ capped (length (message (given c)))
+sized c = summed _ _ _ _ (c .before .before .add .ensures) (c .before .add2 .ensures) ∙ ap capped (long c)
+
+returns : tie.Need-returns
+returns c =
+    let v : tie.After-verdict = c .before .before in
+    refuses _ noTable (given v) (now (called v .args .out)) _ _ _ _ (v .before .before .before .table-refusal .ensures _) (sized v) refl (v .verdict .ensures) _ _ (c .enum-told2 .given .1)
+
+-- ---- the record goes into the buffer
+
+fine : (longest : ℕ) (c : tie.After-enum-told) → let v = c .before .before in
+    Goes (onlySub peerTables longest) noTable (given v) (now (called v .args .out)) (v .before .add2 .result) (v .verdict .result)
+fine longest c =
+    let v : tie.After-verdict = c .before .before in
+    goes _ noTable (given v) (now (called v .args .out)) _ _ _ _ (v .before .before .before .table-refusal .ensures longest) (sized v) refl (v .verdict .ensures) _ (c .enum-told .given .1)
+
+put-head-requires : tie.Need-put-head-requires
+put-head-requires c κs = let s = fine 0 (c .before) .space in search needs
+
+put-table-requires : tie.Need-put-table-requires
+put-table-requires c κs =
+    let k : tie.After-enum-told = search needs in
+    let s = fine 0 k .space in
+    let l = long (k .before .before) in
+    search needs
+
 returns-2 : tie.Need-returns-2
 returns-2 c =
-    let a = c .before .before .before .before .before .before .before .before .before .before .before .before .before .before .before .before .before .before .before .before .before .before .before .before .before .before .before .before .before .before .before .before .before .args in
-    let f = fine (c .before .before .before .before .before .before .before .before .before .before .before .before .before .before .before .before .before .before .before .before .before .before .before .before) in
-    let s = f .space in
-    let h : 12 + length (message (given (c .before .before .before .before .before .before .before .before .before .before .before .before .before .before .before .before .before .before .before .before .before .before .before .before .before .before))) ≤ length (c .before .before .before .before .before .before .before .before .before .before .before .before .before .before .before .before .before .before .before .before .before .before .put-head .last .0) = search needs in
-    done (onlySub peerTables 4096) noTable (given (c .before .before .before .before .before .before .before .before .before .before .before .before .before .before .before .before .before .before .before .before .before .before .before .before .before .before)) (now (a .out)) _ _ (c .before .before .before .before .before .before .before .before .before .before .before .before .before .before .before .before .before .before .before .before .before .before .before .before .before .before .before .add2 .result) _ f (c .before .before .before .before .before .before .before .before .before .before .before .before .before .before .before .before .before .before .before .before .before .before .put-head .ensures)
-    (table-laid (a .timestamp) (a .collector) (now (a .name)) (a .count) (now (a .peers)) _ _ _ _ _ _
-    (c .before .before .before .before .before .before .before .before .before .before .before .before .before .before .before .before .before .before .put-number .ensures) (c .before .before .before .before .before .before .before .before .before .before .before .before .before .before .put-number2 .ensures) (c .before .before .before .before .before .before .before .before .before .before .put-bytes .ensures) (c .before .before .before .before .before .before .put-number3 .ensures) (c .before .before .put-bytes2 .ensures) h)
+    let k : tie.After-enum-told = search needs in
+    let h : tie.After-put-head = search needs in
+    done _ _ _ _ _ _ _ _ (fine _ k) (h .put-head .ensures) (c .before .before .put-table .ensures)
 
 pub write-peer-table-spec : {M : Type 1} → statement M
 write-peer-table-spec =
@@ -96,13 +90,7 @@ write-peer-table-spec =
     enum-told
     enum-told-2
     returns
-    add-a
-    add-b
     put-head-requires
-    put-number-requires
-    put-number-requires-2
-    put-bytes-requires
-    put-number-requires-3
-    put-bytes-requires-2
+    put-table-requires
     same-length
     returns-2)

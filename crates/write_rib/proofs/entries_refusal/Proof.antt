@@ -2,7 +2,8 @@
 use mathlib.Core.Path.{sym, ap, _∙_}
 use denote.Ref.{now}
 use Rattle.page.specs.Rib.{entry}
-use Rattle.writing.proofs.Items.{refusedWith, not-refused, count-large, items-judged}
+use Rattle.reading.specs.Answer.{fault}
+use Rattle.writing.proofs.Items.{not-refused, count-large, items-judged}
 use borrow.Author.Needs.{needs}
 use Rattle.write_rib.proofs.entries_refusal.Statement.{statement}
 use Rattle.write_rib.proofs.entries_refusal.Tie as tie
@@ -21,13 +22,16 @@ enum-known-n c = search needs
 
 returns-2 : tie.Need-returns-2
 returns-2 c =
-    let a = c .before .before .before .before .before .args in
+    let s : tie.Start = search needs in
+    let a = s .args in
     sym (not-refused (c .before .entries-at .result) (c .match .keys2)) ∙ items-judged (entry (a .peers)) (a .count) (now (a .entries)) _ _ (c .before .before .before .large .ensures) (c .before .before .if1 .left) (c .before .entries-at .ensures)
 
 returns-3 : tie.Need-returns-3
 returns-3 c =
-    let a = c .before .before .before .before .before .before .before .args in
-    sym (ap refusedWith (c .before .n .given .1)) ∙ items-judged (entry (a .peers)) (a .count) (now (a .entries)) _ _ (c .before .before .before .before .before .large .ensures) (c .before .before .before .before .if1 .left) (c .before .before .before .entries-at .ensures)
+    let e : tie.Else1 = search needs in
+    let s : tie.Start = search needs in
+    let a = s .args in
+    sym (ap fault (c .before .n .given .1)) ∙ items-judged (entry (a .peers)) (a .count) (now (a .entries)) _ _ (e .before .large .ensures) (e .if1 .left) (c .before .before .before .entries-at .ensures)
 
 pub entries-refusal-spec : {M : Type 1} → statement M
 entries-refusal-spec =

@@ -1,15 +1,17 @@
 -- `write_rib::generic_rib_refusal` meets its contract. Assumes nothing.
-use mathlib.Core.Path.{refl}
+use mathlib.Core.Path.{_≡_, refl}
+use Prim.Native.Nat.{ℕ}
 use native.Mathlib.Omega.{arith}
 use denote.Ref.{now}
 use Rattle.form.specs.Fmt.{end}
-use Rattle.form.specs.Put.{Given}
+use Rattle.form.specs.Put.{Given, bodyRefusal, fieldsRefusal}
+use Rattle.form.specs.Shape.{entries, plan}
 use Rattle.form.specs.Words.{choose, within}
 use Rattle.page.specs.Layout.{kind13, kind, layoutOf}
-use Rattle.page.specs.Rib.{genericHead}
+use Rattle.page.specs.Rib.{genericHead, entryRest}
 use Rattle.page.specs.declared.Kind.the-variants.{RibGeneric}
 use Rattle.shown.specs.Table.{tableOf}
-use Rattle.writing.specs.Only.{genericRibs}
+use Rattle.writing.specs.Only.{onlySub, genericRibs}
 use Rattle.writing.specs.Givens.{ribGenericGiven}
 use Rattle.writing.proofs.Turns.{stops, owns}
 use Rattle.write_rib.proofs.Laws.{no-table, held-stops, held-passes}
@@ -20,47 +22,59 @@ use Rattle.write_rib.proofs.generic_rib_refusal.Tie as tie
 head-refusal-requires : tie.Need-head-refusal-requires
 head-refusal-requires c κs = search needs
 
-returns : tie.Need-returns
-unfolding kind kind13 choose within
-returns c =
-    let a = c .before .before .before .before .args in
-    let g : Given = ribGenericGiven (a .timestamp) (a .sequence) (a .family) (a .safi) (a .bits) (now (a .prefix)) (a .count) (now (a .entries)) in
-    stops 4096 genericRibs (tableOf (a .told)) g RibGeneric _ (omega arith) refl refl (c .before .head-refusal .ensures) (c .if1 .taken)
-
 enum-known-told : tie.Need-enum-known-told
 enum-known-told c = search needs
 
 enum-told : tie.Need-enum-told
 enum-told c = search needs
 
-returns-2 : tie.Need-returns-2
-unfolding kind kind13 choose within layoutOf
-returns-2 c =
-    let a = c .before .before .before .before .before .before .args in
-    let g : Given = ribGenericGiven (a .timestamp) (a .sequence) (a .family) (a .safi) (a .bits) (now (a .prefix)) (a .count) (now (a .entries)) in
-    owns 4096 genericRibs (tableOf (a .told)) g RibGeneric _ (omega arith) refl refl (c .before .before .before .head-refusal .ensures) _ (c .before .before .if1 .left) refl (no-table (a .told) _ _ (g .values) (g .tail) (c .enum-told .given .1))
-
 generic-refusal-requires : tie.Need-generic-refusal-requires
 generic-refusal-requires c κs = search needs
-
-returns-3 : tie.Need-returns-3
-unfolding kind kind13 choose within layoutOf
-returns-3 c =
-    let a = c .before .before .before .before .before .before .before .before .before .args in
-    let g : Given = ribGenericGiven (a .timestamp) (a .sequence) (a .family) (a .safi) (a .bits) (now (a .prefix)) (a .count) (now (a .entries)) in
-    owns 4096 genericRibs (tableOf (a .told)) g RibGeneric _ (omega arith) refl refl (c .before .before .before .before .before .before .head-refusal .ensures) _ (c .before .before .before .before .before .if1 .left) refl
-    (held-stops (a .told) _ (genericHead (end 0)) (g .values) (g .tail) _ (c .before .before .before .told .given .1) (c .before .generic-refusal .ensures) (c .if2 .taken))
 
 entries-refusal-requires : tie.Need-entries-refusal-requires
 entries-refusal-requires c κs = search needs
 
-returns-4 : tie.Need-returns-4
+abbrev given : tie.Start → Given
+given s =
+    let a = s .args in
+    ribGenericGiven (a .timestamp) (a .sequence) (a .family) (a .safi) (a .bits) (now (a .prefix)) (a .count) (now (a .entries))
+
+returns : tie.Need-returns
+unfolding kind kind13 choose within
+returns c =
+    λ longest.
+    let s : tie.Start = search needs in
+    stops longest genericRibs (tableOf (s .args .told)) (given s) RibGeneric _ (omega arith) refl refl (c .before .head-refusal .ensures) (c .if1 .taken)
+
+-- the state in which the function was called
+abbrev called : tie.Else1 → tie.Start
+called c = c .before .before .before .before
+
+-- the header's fields are sound, and the message is refused with r
+passes : (longest r : ℕ) (c : tie.Else1) → let s = called c in
+    r ≡ bodyRefusal (plan (tableOf (s .args .told)) (entries (genericHead (end 0)) entryRest)) (given s .values) (given s .tail)
+    → r ≡ fieldsRefusal (onlySub genericRibs longest) (tableOf (s .args .told)) (given s)
 unfolding kind kind13 choose within layoutOf
+passes longest r c e =
+    let s = called c in
+    owns longest genericRibs (tableOf (s .args .told)) (given s) RibGeneric _ (omega arith) refl refl (c .before .head-refusal .ensures) r (c .if1 .left) refl e
+
+returns-2 : tie.Need-returns-2
+returns-2 c = λ longest. let e : tie.Else1 = search needs in passes longest _ e (no-table _ _ _ _ _ (c .enum-told .given .1))
+
+returns-3 : tie.Need-returns-3
+returns-3 c =
+    λ longest.
+    let held = c .before .before .before .told .given .1 in
+    let e : tie.Else1 = search needs in
+    passes longest _ e (held-stops _ _ _ _ _ _ held (c .before .generic-refusal .ensures) (c .if2 .taken))
+
+returns-4 : tie.Need-returns-4
 returns-4 c =
-    let a = c .before .before .before .before .before .before .before .before .before .before .args in
-    let g : Given = ribGenericGiven (a .timestamp) (a .sequence) (a .family) (a .safi) (a .bits) (now (a .prefix)) (a .count) (now (a .entries)) in
-    owns 4096 genericRibs (tableOf (a .told)) g RibGeneric _ (omega arith) refl refl (c .before .before .before .before .before .before .before .head-refusal .ensures) _ (c .before .before .before .before .before .before .if1 .left) refl
-    (held-passes (a .told) _ (genericHead (end 0)) (g .values) (g .tail) _ (c .before .before .before .before .told .given .1) (c .before .before .generic-refusal .ensures) _ (c .before .if2 .left) (c .entries-refusal .ensures))
+    λ longest.
+    let known : tie.After-told = search needs in
+    let e : tie.Else1 = search needs in
+    passes longest _ e (held-passes _ _ _ _ _ _ (known .told .given .1) (c .before .before .generic-refusal .ensures) _ (c .before .if2 .left) (c .entries-refusal .ensures))
 
 pub generic-rib-refusal-spec : {M : Type 1} → statement M
 generic-rib-refusal-spec =

@@ -35,14 +35,17 @@ same-length c = search needs
 
 returns : tie.Need-returns
 returns c =
-    let a = c .before .before .before .before .before .before .before .before .before .before .before .before .before .before .before .before .before .before .before .args in
-    let h = c .before .before .before .before .before .before .before .before .before .before .before .before .before .before .before .before .before .before .before .pre in
-    let x0 = none (now (a .out)) (a .at) (omega arith) in
-    let x1 = number x0 _ _ (c .before .before .before .before .before .before .before .before .before .before .before .before .before .before .put-number .ensures) (omega arith) (omega arith) in
-    let x2 = octets x1 _ (c .before .before .before .before .before .before .before .before .before .before .put-bytes .ensures) (omega arith) (omega arith) in
-    let x3 = number x2 _ _ (c .before .before .before .before .before .before .put-number2 .ensures) (omega arith) (omega arith) in
-    let x4 = octets x3 _ (c .before .before .put-bytes2 .ensures) (omega arith) (omega arith) in
-    x4 .is ∙ ap (over (now (a .out)) (a .at)) (simp (append-assoc, append-nil))
+    let p4 : tie.After-put-bytes2 = search needs in
+    let p3 : tie.After-put-number2 = search needs in
+    let p2 : tie.After-put-bytes = search needs in
+    let p1 : tie.After-put-number = search needs in
+    let s : tie.Start = search needs in
+    let h = s .pre in
+    let x1 = number (none (now (s .args .out)) (s .args .at) (omega arith)) _ _ (p1 .put-number .ensures) (omega arith) (omega arith) in
+    let x2 = octets x1 _ (p2 .put-bytes .ensures) (omega arith) (omega arith) in
+    let x3 = number x2 _ _ (p3 .put-number2 .ensures) (omega arith) (omega arith) in
+    let x4 = octets x3 _ (p4 .put-bytes2 .ensures) (omega arith) (omega arith) in
+    x4 .is ∙ ap (over (now (s .args .out)) (s .args .at)) (simp (append-assoc, append-nil))
 
 pub put-entries-spec : {M : Type 1} → statement M
 put-entries-spec =

@@ -18,35 +18,43 @@ use Rattle.write_table_dump.proofs.dump_refusal.Tie as tie
 head-refusal-requires : tie.Need-head-refusal-requires
 head-refusal-requires c κs = search needs
 
-returns : tie.Need-returns
-unfolding kind choose
-returns c =
-    let a = c .before .before .before .before .before .args in
-    let g : Given = tableDumpGiven (a .timestamp) (a .subtype) (a .view) (a .sequence) (now (a .prefix)) (a .bits) (a .status) (a .originated) (now (a .address)) (a .peer) (now (a .attributes)) in
-    stops 4096 tableDumps noTable g _ _ (omega arith) refl refl (c .before .head-refusal .ensures) (c .if1 .taken)
-
 kind-12-requires : tie.Need-kind-12-requires
 kind-12-requires c κs = search needs
 
 enum-known-size : tie.Need-enum-known-size
 enum-known-size c = search needs
 
+route-refusal-requires : tie.Need-route-refusal-requires
+route-refusal-requires c κs =
+    let s : tie.Start = search needs in
+    rw (sym (c .before .before .before .kind-12 .ensures) ∙ c .before .size .given .1) at (sane12 (s .args .subtype))
+
+abbrev given : tie.Start → Given
+given s =
+    let a = s .args in
+    tableDumpGiven (a .timestamp) (a .subtype) (a .view) (a .sequence) (now (a .prefix)) (a .bits) (a .status) (a .originated) (now (a .address)) (a .peer) (now (a .attributes))
+
+returns : tie.Need-returns
+unfolding kind choose
+returns c = λ longest. let s : tie.Start = search needs in stops longest tableDumps noTable (given s) _ _ (omega arith) refl refl (c .before .head-refusal .ensures) (c .if1 .taken)
+
 returns-2 : tie.Need-returns-2
 unfolding kind choose
 returns-2 c =
-    let a = c .before .before .before .before .before .before .before .args in
-    let g : Given = tableDumpGiven (a .timestamp) (a .subtype) (a .view) (a .sequence) (now (a .prefix)) (a .bits) (a .status) (a .originated) (now (a .address)) (a .peer) (now (a .attributes)) in
-    others 4096 tableDumps noTable g _ _ (omega arith) refl (sym (c .before .kind-12 .ensures)) (c .before .before .before .head-refusal .ensures) (c .before .before .if1 .left) (not-own (0 ∷ 1 ∷ 3 ∷ 4 ∷ 5 ∷ 6 ∷ 7 ∷ []) tableDumps 2 (c .before .kind-12 .result) refl tt (c .match .keys2))
-
-route-refusal-requires : tie.Need-route-refusal-requires
-route-refusal-requires c κs = rw (sym (c .before .before .before .kind-12 .ensures) ∙ c .before .size .given .1) at (sane12 (c .before .before .before .before .before .before .before .before .before .args .subtype))
+    λ longest.
+    let k = c .before .kind-12 in
+    let e : tie.Else1 = search needs in
+    let s : tie.Start = search needs in
+    others longest tableDumps noTable (given s) _ _ (omega arith) refl (sym (k .ensures)) (e .before .head-refusal .ensures) (e .if1 .left) (not-own (0 ∷ 1 ∷ 3 ∷ 4 ∷ 5 ∷ 6 ∷ 7 ∷ []) tableDumps 2 (k .result) refl tt (c .match .keys2))
 
 returns-3 : tie.Need-returns-3
 unfolding kind choose layoutOf plan bodyRefusal
 returns-3 c =
-    let a = c .before .before .before .before .before .before .before .before .before .before .args in
-    let g : Given = tableDumpGiven (a .timestamp) (a .subtype) (a .view) (a .sequence) (now (a .prefix)) (a .bits) (a .status) (a .originated) (now (a .address)) (a .peer) (now (a .attributes)) in
-    owns 4096 tableDumps noTable g _ _ (omega arith) refl (sym (c .before .before .before .before .kind-12 .ensures) ∙ c .before .before .size .given .1) (c .before .before .before .before .before .before .head-refusal .ensures) _ (c .before .before .before .before .before .if1 .left) refl (c .route-refusal .ensures)
+    λ longest.
+    let k : tie.After-kind-12 = search needs in
+    let e : tie.Else1 = search needs in
+    let s : tie.Start = search needs in
+    owns longest tableDumps noTable (given s) _ _ (omega arith) refl (sym (k .kind-12 .ensures) ∙ c .before .before .size .given .1) (e .before .head-refusal .ensures) _ (e .if1 .left) refl (c .route-refusal .ensures)
 
 pub dump-refusal-spec : {M : Type 1} → statement M
 dump-refusal-spec =

@@ -30,59 +30,80 @@ unread-refusal-requires c κs = search needs
 verdict-requires : tie.Need-verdict-requires
 verdict-requires c κs = search needs
 
-abbrev given : tie.Start → Given
-given s = unreadGiven (s .args .time) (s .args .ty) (s .args .subtype) (now (s .args .contents))
-
--- the message's length, as it is added up
-sized : (c : tie.After-add) → c .add .result ≡ capped (length (message (given (c .before .before .before .before))))
-sized c =
-    let a = c .before .before .before .before .args in
-    c .add .ensures ∙ ap capped (ap (λ (m : ℕ). m + length (now (a .contents))) (c .before .micro .ensures) ∙ sym (message-long (a .time) (a .ty) (a .subtype) (now (a .contents))))
-
 enum-told : tie.Need-enum-told
 enum-told c = search needs
 
 enum-told-2 : tie.Need-enum-told-2
 enum-told-2 c = search needs
 
-returns : tie.Need-returns
-returns c =
-    refuses _ _ (given (c .before .before .before .before .before .before .before .before)) (now (c .before .before .before .before .before .before .before .before .args .out)) _ _ _ _ (c .before .before .before .unread-refusal .ensures) (sized (c .before .before .before .before)) refl (c .before .before .verdict .ensures) _ (c .enum-told2 .given .1)
-
--- the record goes into the buffer
-fine : (c : tie.After-enum-told) → Goes (onlyType (unreads (microOf (c .before .before .before .before .before .before .before .before .args .time))) 4096) noTable (given (c .before .before .before .before .before .before .before .before)) (now (c .before .before .before .before .before .before .before .before .args .out)) (c .before .before .before .before .add .result) (c .before .before .verdict .result)
-fine c = goes _ _ _ _ _ _ _ _ (c .before .before .before .unread-refusal .ensures) (sized (c .before .before .before .before)) refl (c .before .before .verdict .ensures) _ (c .enum-told .given .1)
-
-space : (c : tie.After-enum-told) → 12 + (microOf (c .before .before .before .before .before .before .before .before .args .time) + length (now (c .before .before .before .before .before .before .before .before .args .contents))) ≤ length (now (c .before .before .before .before .before .before .before .before .args .out))
-space c =
-    let a = c .before .before .before .before .before .before .before .before .args in
-    let l = message-long (a .time) (a .ty) (a .subtype) (now (a .contents)) in
-    omega (arith, fine c .space)
-
 seconds-requires : tie.Need-seconds-requires
 seconds-requires c κs = search needs
-
-put-head-requires : tie.Need-put-head-requires
-put-head-requires c κs = let s = space (c .before .before) in search needs
-
-put-micros-requires : tie.Need-put-micros-requires
-put-micros-requires c κs = let s = space (c .before .before .before .before .before .before) in search needs
-
-put-bytes-requires : tie.Need-put-bytes-requires
-put-bytes-requires c κs = let s = space (c .before .before .before .before .before .before .before .before .before .before) in let i = c .before .before .before .put-micros .ensures .0 in search needs
 
 same-length : tie.Need-same-length
 same-length c = search needs
 
+-- ---- the verdict
+
+abbrev called : tie.After-verdict → tie.Start
+called c = c .before .before .before .before .before .before
+
+abbrev given : tie.After-verdict → Given
+given c = let a = called c .args in unreadGiven (a .time) (a .ty) (a .subtype) (now (a .contents))
+
+abbrev size : tie.After-verdict → ℕ
+size c = c .before .before .add .result
+
+-- the message's length, as it is added up
+sized : (c : tie.After-verdict) → size c ≡ capped (length (message (given c)))
+sized c =
+    let k : tie.After-add = search needs in
+    let a = called c .args in
+    k .add .ensures ∙ ap capped (ap (λ (m : ℕ). m + length (now (a .contents))) (k .before .micro .ensures) ∙ sym (message-long (a .time) (a .ty) (a .subtype) (now (a .contents))))
+
+returns : tie.Need-returns
+returns c =
+    let v : tie.After-verdict = c .before .before in
+    refuses _ _ (given v) (now (called v .args .out)) _ _ _ _ (v .before .unread-refusal .ensures _) (sized v) refl (v .verdict .ensures) _ _ (c .enum-told2 .given .1)
+
+-- ---- the record goes into the buffer
+
+fine : (longest : ℕ) (c : tie.After-enum-told) → let v = c .before .before in let a = called v .args in
+    Goes (onlyType (unreads (microOf (a .time))) longest) noTable (given v) (now (a .out)) (size v) (v .verdict .result)
+fine longest c =
+    let v : tie.After-verdict = c .before .before in
+    goes _ _ _ _ _ _ _ _ (v .before .unread-refusal .ensures longest) (sized v) refl (v .verdict .ensures) _ (c .enum-told .given .1)
+
+space : (c : tie.After-enum-told) → let a = called (c .before .before) .args in 12 + (microOf (a .time) + length (now (a .contents))) ≤ length (now (a .out))
+space c =
+    let a = called (c .before .before) .args in
+    let l = message-long (a .time) (a .ty) (a .subtype) (now (a .contents)) in
+    omega (arith, fine 0 c .space)
+
+put-head-requires : tie.Need-put-head-requires
+put-head-requires c κs = let s = space (search needs) in search needs
+
+put-micros-requires : tie.Need-put-micros-requires
+put-micros-requires c κs = let s = space (search needs) in search needs
+
+put-bytes-requires : tie.Need-put-bytes-requires
+put-bytes-requires c κs =
+    let k : tie.After-enum-told = search needs in
+    let s = space k in
+    let i = c .before .before .before .put-micros .ensures .0 in
+    search needs
+
 returns-2 : tie.Need-returns-2
 returns-2 c =
-    let told = c .before .before .before .before .before .before .before .before .before .before .before .before .before in
-    let a = told .before .before .before .before .before .before .before .before .args in
-    let s = space told in
-    let head = rw (c .before .before .before .before .before .before .before .before .before .before .before .seconds .ensures) at (c .before .before .before .before .before .before .before .before .before .before .put-head .ensures) in
+    let m : tie.After-put-micros = search needs in
+    let h : tie.After-put-head = search needs in
+    let k : tie.After-enum-told = search needs in
+    let a = called (k .before .before) .args in
+    let s = space k in
     let l = micros-long (a .time) in
-    let rest = more (c .before .before .before .before .before .before .before .before .before .before .put-head .last .0) (join (lay (micros (a .time)))) (now (a .contents)) _ _ 12 _ (c .before .before .before .before .before .before .put-micros .ensures .1) (c .before .before .put-bytes .ensures) (c .before .before .before .before .before .before .put-micros .ensures .0 ∙ ap (λ (n : ℕ). 12 + n) (sym l)) (rw l (search needs)) in
-    done _ _ _ _ _ _ _ _ (fine told) head rest
+    let at = m .put-micros .ensures .0 ∙ ap (λ (n : ℕ). 12 + n) (sym l) in
+    let head = rw (h .before .seconds .ensures) at (h .put-head .ensures) in
+    let rest = more (h .put-head .last .0) (join (lay (micros (a .time)))) (now (a .contents)) _ _ 12 _ (m .put-micros .ensures .1) (c .before .before .put-bytes .ensures) at (rw l (search needs)) in
+    done _ _ _ _ _ _ _ _ (fine _ k) head rest
 
 pub write-unread-spec : {M : Type 1} → statement M
 write-unread-spec =

@@ -16,12 +16,14 @@ large-requires-2 c κs = search needs
 
 returns-2 : tie.Need-returns-2
 returns-2 c =
-    let a = c .before .before .before .before .args in
+    let s : tie.Start = search needs in
+    let a = s .args in
     sym (rw (not-large 4 (a .timestamp) _ (c .before .before .before .large .ensures) (c .before .before .if1 .left), is-large 2 (a .subtype) _ (c .before .large2 .ensures) (c .if2 .taken)))
 
 returns-3 : tie.Need-returns-3
 returns-3 c =
-    let a = c .before .before .before .before .args in
+    let s : tie.Start = search needs in
+    let a = s .args in
     sym (rw (not-large 4 (a .timestamp) _ (c .before .before .before .large .ensures) (c .before .before .if1 .left), not-large 2 (a .subtype) _ (c .before .large2 .ensures) (c .if2 .left)))
 
 pub head-refusal-spec : {M : Type 1} → statement M

@@ -20,7 +20,8 @@ enum-known-t c = search needs
 
 put-number-requires : tie.Need-put-number-requires
 put-number-requires c κs =
-    let p = rw (c .before .before .t .given .1) at (c .before .before .before .before .before .pre) in
+    let s : tie.Start = search needs in
+    let p = rw (c .before .before .t .given .1) at (s .pre) in
     search needs
 
 same-length : tie.Need-same-length
@@ -28,8 +29,8 @@ same-length c = search needs
 
 returns-2 : tie.Need-returns-2
 returns-2 c =
-    let e = c .before .before .before .before .before .t .given .1 in
-    rw e (refl, c .before .before .put-number .ensures ∙ ap (over _ 12) (sym (append-nil _)))
+    let k : tie.After-t = search needs in
+    rw (k .t .given .1) (refl, c .before .before .put-number .ensures ∙ ap (over _ 12) (sym (append-nil _)))
 
 pub put-micros-spec : {M : Type 1} → statement M
 put-micros-spec =

@@ -1,8 +1,8 @@
--- `record::generic_told` meets its contract. Assumes nothing.
-use Rattle.reading.specs.One.{shownAs, tabled}
+-- `record::generic` meets its contract.
+use Rattle.reading.specs.One.{tabled}
 use borrow.Author.Needs.{needs}
-use Rattle.record.proofs.generic_told.Statement.{statement}
-use Rattle.record.proofs.generic_told.Tie as tie
+use Rattle.record.proofs.generic.Statement.{statement}
+use Rattle.record.proofs.generic.Tie as tie
 
 enum-known-t : tie.Need-enum-known-t
 enum-known-t c = search needs
@@ -11,7 +11,7 @@ enum-told : tie.Need-enum-told
 enum-told c = search needs
 
 returns : tie.Need-returns
-unfolding shownAs tabled
+unfolding tabled
 returns c = rw (c .enum-told .given .1)
 
 header-of-requires : tie.Need-header-of-requires
@@ -21,10 +21,10 @@ rib-generic-requires : tie.Need-rib-generic-requires
 rib-generic-requires c κs = search needs
 
 returns-2 : tie.Need-returns-2
-unfolding shownAs tabled
+unfolding tabled
 returns-2 c = rw (c .before .before .before .t .given .1) (rw (c .before .header-of .ensures) at (c .rib-generic .ensures))
 
-pub generic-told-spec : {M : Type 1} → statement M
-generic-told-spec =
+pub generic-spec : {M : Type 1} → statement M
+generic-spec =
     tie.close
     (tie.spec enum-known-t enum-told returns header-of-requires rib-generic-requires returns-2)

@@ -1,8 +1,8 @@
--- `record::rib_told` meets its contract. Assumes nothing.
-use Rattle.reading.specs.One.{shownAs, tabled}
+-- `record::rib` meets its contract.
+use Rattle.reading.specs.One.{tabled}
 use borrow.Author.Needs.{needs}
-use Rattle.record.proofs.rib_told.Statement.{statement}
-use Rattle.record.proofs.rib_told.Tie as tie
+use Rattle.record.proofs.rib.Statement.{statement}
+use Rattle.record.proofs.rib.Tie as tie
 
 enum-known-t : tie.Need-enum-known-t
 enum-known-t c = search needs
@@ -11,7 +11,7 @@ enum-told : tie.Need-enum-told
 enum-told c = search needs
 
 returns : tie.Need-returns
-unfolding shownAs tabled
+unfolding tabled
 returns c = rw (c .enum-told .given .1)
 
 header-of-requires : tie.Need-header-of-requires
@@ -21,10 +21,10 @@ rib-at-requires : tie.Need-rib-at-requires
 rib-at-requires c κs = search needs
 
 returns-2 : tie.Need-returns-2
-unfolding shownAs tabled
+unfolding tabled
 returns-2 c = rw (c .before .before .before .t .given .1) (rw (c .before .header-of .ensures) at (c .rib-at .ensures))
 
-pub rib-told-spec : {M : Type 1} → statement M
-rib-told-spec =
+pub rib-spec : {M : Type 1} → statement M
+rib-spec =
     tie.close
     (tie.spec enum-known-t enum-told returns header-of-requires rib-at-requires returns-2)

@@ -11,7 +11,8 @@ use Rattle.shown.specs.declared.Route.{Route}
 use Rattle.shown.specs.declared.Peers.{Peers}
 use Rattle.shown.specs.declared.Routes.{Routes}
 use Rattle.shown.specs.declared.Shown.{Shown}
-use Rattle.shown.specs.declared.Shown.the-variants.{TableDump, PeerTable, Rib, RibGeneric, Change, Message}
+use Rattle.shown.specs.declared.Shown.the-variants.{Good}
+use Rattle.shown.specs.declared.Body.the-variants.{TableDump, PeerTable, Rib, RibGeneric, Change, Message}
 use Rattle.shown.specs.declared.Entry.{Entry}
 use Rattle.shown.specs.declared.Entry.the-variants.{At}
 use Rattle.shown.specs.declared.Peer.{Peer}
@@ -33,18 +34,18 @@ sessionOf p l i f fs = record { peer = p; local = l; interface = i; family = f; 
 abbrev pub session : List Seen → Session
 session fs = sessionOf (numberOf peerAs fs) (numberOf localAs fs) (numberOf interface fs) (numberOf family fs) fs
 
-abbrev pub changed : Header → Session → List Seen → Shown
-changed h s fs = Change h s (numberOf oldState fs) (numberOf newState fs)
+abbrev pub changeOf : Header → Session → List Seen → Shown
+changeOf h s fs = Good h (Change s (record { old = numberOf oldState fs; new = numberOf newState fs }))
 
 -- the BGP message starts at its marker and is as long as it says
-abbrev pub told : Header → Session → List Seen → Shown
-told h s fs = Message h s (record { at = placeOf marker fs; size = numberOf bgpLength fs }) (numberOf bgpType fs)
+abbrev pub messageOf : Header → Session → List Seen → Shown
+messageOf h s fs = Good h (Message s (record { message = record { at = placeOf marker fs; size = numberOf bgpLength fs }; kind = numberOf bgpType fs }))
 
 abbrev pub change : Header → List Seen → Shown
-change h fs = changed h (session fs) fs
+change h fs = changeOf h (session fs) fs
 
 abbrev pub message : Header → List Seen → Shown
-message h fs = told h (session fs) fs
+message h fs = messageOf h (session fs) fs
 
 -- ---- type 12
 
@@ -56,7 +57,7 @@ abbrev pub routeRest : (view sequence : ℕ) (prefix : Part) (bits : ℕ) → Li
 routeRest v s p b fs = routeOf v s p b (numberOf status fs) (numberOf originated fs) (partOf peerAddress fs) (numberOf peerAs fs) fs
 
 abbrev pub tableDump : Header → List Seen → Shown
-tableDump h fs = TableDump h (routeRest (numberOf view fs) (numberOf sequence fs) (partOf prefixOctets fs) (numberOf prefixBits fs) fs)
+tableDump h fs = Good h (TableDump (routeRest (numberOf view fs) (numberOf sequence fs) (partOf prefixOctets fs) (numberOf prefixBits fs) fs))
 
 -- ---- type 13; m is the whole record
 
@@ -64,17 +65,17 @@ abbrev pub peersOf : (collector : ℕ) (name : Part) → List ℕ → List Seen 
 peersOf c n m fs = record { collector = c; name = n; count = numberOf peerCount fs; peers = restFrom m (afterOf peerCount fs) }
 
 abbrev pub peerTable : Header → List ℕ → List Seen → Shown
-peerTable h m fs = PeerTable h (peersOf (numberOf collector fs) (partOf viewName fs) m fs)
+peerTable h m fs = Good h (PeerTable (peersOf (numberOf collector fs) (partOf viewName fs) m fs))
 
 -- behind the sequence, and in subtype 6 the family and SAFI
 abbrev pub routesOf : (sequence : ℕ) → List ℕ → List Seen → Routes
 routesOf s m fs = record { sequence = s; bits = numberOf prefixBits fs; prefix = partOf prefixOctets fs; count = numberOf entryCount fs; entries = restFrom m (afterOf entryCount fs) }
 
 abbrev pub rib : Header → List ℕ → List Seen → Shown
-rib h m fs = Rib h (routesOf (numberOf sequence fs) m fs)
+rib h m fs = Good h (Rib (routesOf (numberOf sequence fs) m fs))
 
 abbrev pub ribGeneric : Header → List ℕ → List Seen → Shown
-ribGeneric h m fs = RibGeneric h (numberOf family fs) (numberOf safi fs) (routesOf (numberOf sequence fs) m fs)
+ribGeneric h m fs = Good h (RibGeneric (record { family = numberOf family fs; safi = numberOf safi fs }) (routesOf (numberOf sequence fs) m fs))
 
 -- ---- items: a is where the next one starts
 

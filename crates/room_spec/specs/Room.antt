@@ -1,0 +1,19 @@
+-- Octets xs are to be written into lent room, out: what is answered, and what out holds then (document 01, "Number and place of a fault" and the
+-- writer's paragraph). `fault` and `place` are those of what is written; a fault of 0 is none.
+use mathlib.Core.List.{List, _++_}
+use Prim.Native.Nat.{ℕ, zero, suc}
+use lib.Dec.{ltb}
+use lib.ListN.{length, drop}
+use Rattle.form.specs.Words.{choose}
+use Rattle.room_spec.specs.declared.Written.{Written}
+use Rattle.room_spec.specs.declared.Written.the-variants.{Octets, Refused}
+
+-- the fault, then 15 where xs does not go into out; else as many octets as xs has
+unfoldable pub written : (fault place : ℕ) (xs out : List ℕ) → Written
+written zero p xs out = choose (ltb (length out) (length xs)) (Refused 15 0) (Octets (length xs))
+written (suc n) p xs out = Refused (suc n) p
+
+-- a refusal leaves out as it was; else it starts with xs, and the rest stays
+unfoldable pub holds : (fault : ℕ) (xs out : List ℕ) → List ℕ
+holds zero xs out = choose (ltb (length out) (length xs)) out (xs ++ drop (length xs) out)
+holds (suc n) xs out = out

@@ -1,0 +1,1 @@
+// Laws only: proofs/Theorems.antt is the page to read first.
