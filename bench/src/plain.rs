@@ -78,7 +78,7 @@ fn u16_at(octets: &[u8], at: usize) -> Option<u16> {
 }
 
 /// Types 16 and 17. Type, size of the AS numbers and family differ from record to record: where
-/// fields stand is worked out without a branch on them, since wrong guesses take longer.
+/// fields stand is worked out without a branch on them, since mispredicted ones take longer.
 #[inline(always)]
 fn is_session(message: &[u8], micro: bool, subtype: u16) -> bool {
     let wide = matches!(subtype, 4 | 5 | 7);

@@ -210,7 +210,7 @@ impl<S: Sink> Cutter<'_, S> {
     fn stays(&self, record: &[u8], kind: u16, subtype: u16) -> bool {
         match kind {
             16 | 17 => {
-                // Both are there in either type; a wrong guess at it takes longer than to load both.
+                // Both are there in either type; a misprediction takes longer than loading both.
                 let (first, second) = (u32_at(record, 12), u32_at(record, 16));
                 let (micro, number) = if kind == 17 { (first, second) } else { (0, first) };
                 let narrow = if matches!(subtype, 4 | 5 | 7) { 0 } else { 16 };

@@ -94,7 +94,7 @@ fn bgp4mp(random: &mut Random, out: &mut Vec<u8>) {
     });
 }
 
-/// A few octets changed, put in or taken out, or the end cut off.
+/// A few octets changed, inserted or removed, or the end cut off.
 pub fn damage(random: &mut Random, dump: &mut Vec<u8>) {
     for _ in 0..random.within(0, 3) {
         if dump.is_empty() {

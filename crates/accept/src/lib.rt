@@ -4,38 +4,32 @@ ghost use mathlib.Core.Path.{_≡_};
 ghost use mathlib.Core.Bool.{true, cond};
 ghost use Prim.Native.Nat.{ℕ, _+_, _≤_};
 ghost use lib.ListN.{length};
-ghost use Rattle.form.specs.Pass.{times};
-ghost use Rattle.form.specs.Words.{within};
-ghost use Rattle.page.specs.Bgp4mp.{session, stateChange, message};
-ghost use Rattle.page.specs.Rib.{prefix, entry, entryList, ribGeneric};
-ghost use Rattle.page.specs.Peers.{peer};
-ghost use Rattle.page.specs.TableDump.{tableDump};
-ghost use Rattle.page.specs.Layout.{kind12, kind13, kind16};
-ghost use Rattle.page.specs.declared.Kind.the-variants.{PeerTable};
-ghost use Rattle.reading.specs.One.{shownAs, wholeRecord};
-ghost use Rattle.accept.specs.Runs.{Through, SessionTo, Told};
-ghost use Rattle.accept.specs.Sure.{Sure, Yes, microOf};
-ghost use Rattle.accept.specs.declared.Accepted.the-variants as answer;
-ghost use Rattle.shown.specs.declared.Table as told;
+ghost use Rattle.form_spec.specs.Pass.{times};
+ghost use Rattle.form_spec.specs.Words.{inRange};
+ghost use Rattle.page_spec.specs.Bgp4mp.{session, stateChange, message};
+ghost use Rattle.page_spec.specs.Rib.{prefix, entry, entryList, ribGeneric};
+ghost use Rattle.page_spec.specs.Peers.{peer};
+ghost use Rattle.page_spec.specs.TableDump.{tableDump};
+ghost use Rattle.page_spec.specs.Layout.{kind12, kind13, kind16};
+ghost use Rattle.page_spec.specs.declared.Kind.the-variants.{PeerTable};
+ghost use Rattle.record_spec.specs.One.{shownAs, wholeRecord};
+ghost use Rattle.accept_laws.specs.Runs.{Through, SessionTo, WithTable};
+ghost use Rattle.accept_spec.specs.Sure.{Sure, Yes, microOctets};
+ghost use Rattle.accept_spec.specs.declared.Accepted.the-variants as answer;
+ghost use Rattle.record_spec.specs.declared.Table as told;
+use accept_spec::Accepted;
 use attr::tile;
 use look::as_width;
 use look::count;
 use look::name_end;
 use look::peer_end;
-use num::number;
-use shown::Table;
-
-// A good record; of a peer table also how many peers it has.
-pub enum Accepted {
-    Unsure,
-    Record,
-    Table(u64),
-}
+use octets::number;
+use record_spec::Table;
 
 // ---- types 16 and 17
 
 // Where a session ends that starts at `at`, with AS numbers of `width` octets; 0 where it is not good. The addresses have 8 octets or
-// 32, worked out of the family: neighbouring records differ in it, and a branch would be guessed wrong.
+// 32, computed from the family: neighbouring records differ in it, and a branch would be mispredicted.
 fn session_end(m: &[u8], at: usize, width: usize) -> usize
     requires { ⌜ (at ≤ 16) × (width ≤ 4) ⌝ }
     ensures { λ r. ⌜ (r ≤ 60) × SessionTo width (now (m .entry)) at r ⌝ }
@@ -73,7 +67,7 @@ fn message(m: &[u8], at: usize, width: usize, longest: u64) -> bool
 }
 
 fn state(n: u64) -> bool
-    ensures { λ r. ⌜ (r ≡ true → within 1 n 6 ≡ true) ⌝ }
+    ensures { λ r. ⌜ (r ≡ true → inRange 1 n 6 ≡ true) ⌝ }
 {
     if n == 0 {
         return false;
@@ -112,7 +106,7 @@ fn session(m: &[u8], at: usize, subtype: u64, longest: u64) -> bool
 
 // The octets of microseconds that a record of type 16 or 17 has.
 fn micro_of(ty: u64) -> usize
-    ensures { λ r. ⌜ (r ≡ microOf ty) × (r ≤ 4) ⌝ }
+    ensures { λ r. ⌜ (r ≡ microOctets ty) × (r ≤ 4) ⌝ }
 {
     if ty == 17 {
         return 4;
@@ -176,7 +170,7 @@ fn prefix(m: &[u8], at: usize, most: u64, peers: u64) -> bool
 
 fn rib(m: &[u8], at: usize, most: u64, t: Table) -> bool
     requires { ⌜ at ≤ 19 ⌝ }
-    ensures { λ r. ⌜ (r ≡ true → Told t (λ peers. Through (prefix most (entryList peers)) (now (m .entry)) at)) ⌝ }
+    ensures { λ r. ⌜ (r ≡ true → WithTable t (λ peers. Through (prefix most (entryList peers)) (now (m .entry)) at)) ⌝ }
 {
     let Table::Holds(peers) = t else {
         return false;
@@ -186,7 +180,7 @@ fn rib(m: &[u8], at: usize, most: u64, t: Table) -> bool
 
 // Subtype 6: the family says how long a prefix may be.
 fn rib_generic(m: &[u8], t: Table) -> bool
-    ensures { λ r. ⌜ (r ≡ true → Told t (λ peers. Through (ribGeneric peers) (now (m .entry)) 12)) ⌝ }
+    ensures { λ r. ⌜ (r ≡ true → WithTable t (λ peers. Through (ribGeneric peers) (now (m .entry)) 12)) ⌝ }
 {
     if m.len() < 19 {
         return false;

@@ -1,4 +1,4 @@
--- Where a BGP message ends, the layout that a family's size of addresses chooses, and what stands behind a session. Assumes nothing.
+-- Where a BGP message ends, the layout that a family's size of addresses chooses, and what stands behind a session.
 use mathlib.Core.Path.{_≡_, refl, sym, ap, fun-ext, _∙_}
 use mathlib.Core.Bool.{Bool, true, false}
 use mathlib.Core.List.{List, []}
@@ -6,22 +6,22 @@ use Prim.Native.Nat.{ℕ, _+_, _-_, _≤_}
 use native.Mathlib.Omega.{arith}
 use lib.Dec.{ltb, eqb}
 use lib.ListN.{length, take, drop}
-use Rattle.form.specs.Octets.{be}
-use Rattle.form.specs.Fmt.{Fmt, end}
-use Rattle.form.specs.Words.{_$_, choose, num, skip, fail}
-use Rattle.form.specs.Pass.{Seen, note, pass, whole}
-use Rattle.form.proofs.Pass.{pass-map}
-use Rattle.page.specs.Names.{peerAs, localAs, interface, family, peerAddress, localAddress}
-use Rattle.page.specs.Bgp4mp.{session, addresses}
-use Rattle.shown.specs.Fields as show
-use Rattle.shown.specs.declared.Session.{Session}
-use Rattle.flow.specs.Field.{fieldAt}
-use Rattle.flow.specs.declared.Num.{Num}
-use Rattle.flow.specs.declared.Num.the-variants.{Value}
-use Rattle.flow.specs.Field.{roomAt}
-use Rattle.flow.specs.declared.Room.{Room}
-use Rattle.flow.specs.declared.Room.the-variants.{To}
-use Rattle.flow.proofs.Rules.{is-past, fails}
+use Rattle.form_spec.specs.Octets.{be}
+use Rattle.form_spec.specs.Fmt.{Fmt, end}
+use Rattle.form_spec.specs.Words.{_$_, choose, num, skip, fail}
+use Rattle.form_spec.specs.Pass.{Seen, note, pass, whole}
+use Rattle.form_laws.proofs.Pass.{pass-map}
+use Rattle.page_spec.specs.Names.{peerAs, localAs, interface, family, peerAddress, localAddress}
+use Rattle.page_spec.specs.Bgp4mp.{session, addresses}
+use Rattle.record_spec.specs.Fields as show
+use Rattle.record_spec.specs.declared.Session.{Session}
+use Rattle.octets_spec.specs.Field.{fieldAt}
+use Rattle.octets_spec.specs.declared.Num.{Num}
+use Rattle.octets_spec.specs.declared.Num.the-variants.{Value}
+use Rattle.octets_spec.specs.Field.{roomAt}
+use Rattle.octets_spec.specs.declared.Room.{Room}
+use Rattle.octets_spec.specs.declared.Room.the-variants.{To}
+use Rattle.octets_laws.proofs.Rules.{is-past, fails}
 use Rattle.bgp.specs.Size.{addressSize}
 use Rattle.bgp.specs.declared.Size.{Size}
 use Rattle.bgp.specs.declared.Size.the-variants.{Octets, Unknown}

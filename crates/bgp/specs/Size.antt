@@ -1,7 +1,7 @@
--- How many octets an address of a family has. Assumes nothing.
+-- How many octets an address of a family has.
 use Prim.Native.Nat.{ℕ}
 use lib.Dec.{eqb}
-use Rattle.form.specs.Words.{_$_, choose}
+use Rattle.form_spec.specs.Words.{_$_, choose}
 use Rattle.bgp.specs.declared.Size.{Size}
 use Rattle.bgp.specs.declared.Size.the-variants.{Octets, Unknown}
 

@@ -1,27 +1,27 @@
 // Types 16 and 17: state changes and BGP messages. m is the record from its header to its last octet.
 ghost use mathlib.Core.Path.{_≡_};
 ghost use Prim.Native.Nat.{_+_, _≤_};
-ghost use Rattle.form.specs.Fmt.{end};
-ghost use Rattle.form.specs.Pass.{pass, whole};
-ghost use Rattle.page.specs.Bgp4mp.{session, addresses, stateChange, message, messageRest};
-ghost use Rattle.shown.specs.Fields.{changeOf, messageOf, sessionOf};
-ghost use Rattle.shown.specs.Fields as show;
-ghost use Rattle.shown.specs.declared.Shown.the-variants.{Good, Refused};
-ghost use Rattle.shown.specs.declared.Body.the-variants.{Message};
+ghost use Rattle.form_spec.specs.Fmt.{end};
+ghost use Rattle.form_spec.specs.Pass.{pass, whole};
+ghost use Rattle.page_spec.specs.Bgp4mp.{session, addresses, stateChange, message, messageRest};
+ghost use Rattle.record_spec.specs.Fields.{changeOf, messageOf, sessionOf};
+ghost use Rattle.record_spec.specs.Fields as show;
+ghost use Rattle.record_spec.specs.declared.Shown.the-variants.{Good, Refused};
+ghost use Rattle.record_spec.specs.declared.Body.the-variants.{Message};
 ghost use Rattle.bgp.specs.Size.{addressSize};
 ghost use Rattle.bgp.specs.Met.{met};
 ghost use Rattle.bgp.specs.declared.Met.the-variants.{With, Bad};
-use flow::Num;
-use flow::Room;
-use flow::field;
-use flow::skip;
-use shown::Bgp;
-use shown::Body;
-use shown::Header;
-use shown::Part;
-use shown::Session;
-use shown::Shown;
-use shown::States;
+use octets::field;
+use octets::skip;
+use octets_spec::Num;
+use octets_spec::Room;
+use record_spec::Bgp;
+use record_spec::Body;
+use record_spec::Header;
+use record_spec::Part;
+use record_spec::Session;
+use record_spec::Shown;
+use record_spec::States;
 
 // How many octets an address has.
 pub enum Size {
@@ -130,19 +130,19 @@ fn message_rest(
     at: usize,
     length: usize,
     n: u64,
-    most: u64,
+    longest: u64,
     h: Header,
     s: Session,
     marker: usize,
     kind: u64,
 ) -> Shown
     requires { ⌜ at ≡ length + 3 ⌝ }
-    ensures { λ r. ⌜ r ≡ whole (λ fs. Good h (Message s (record { message = record { at = marker; size = n }; kind = kind }))) Refused (messageRest most n) (now (m .entry)) at ⌝ }
+    ensures { λ r. ⌜ r ≡ whole (λ fs. Good h (Message s (record { message = record { at = marker; size = n }; kind = kind }))) Refused (messageRest longest n) (now (m .entry)) at ⌝ }
 {
     if n < 19 {
         return Shown::Refused(10, length);
     }
-    if most < n {
+    if longest < n {
         return Shown::Refused(10, length);
     }
     let Room::To(e) = skip(m, at, (n - 19) as usize) else {
@@ -158,9 +158,9 @@ fn message_rest(
     Shown::Good(h, Body::Message(s, Bgp { message, kind }))
 }
 
-// A BGP message that starts at `at` and ends where m ends; `most` is the longest.
-pub fn message_at(m: &[u8], at: usize, most: u64, h: Header, s: Session) -> Shown
-    ensures { λ r. ⌜ r ≡ whole (messageOf h s) Refused (message most) (now (m .entry)) at ⌝ }
+// A BGP message that starts at `at` and ends where m ends; `longest` counts the octets of the longest.
+pub fn message_at(m: &[u8], at: usize, longest: u64, h: Header, s: Session) -> Shown
+    ensures { λ r. ⌜ r ≡ whole (messageOf h s) Refused (message longest) (now (m .entry)) at ⌝ }
 {
     let Room::To(a) = skip(m, at, 16) else {
         return Shown::Refused(5, at);
@@ -171,7 +171,7 @@ pub fn message_at(m: &[u8], at: usize, most: u64, h: Header, s: Session) -> Show
     let Num::Value(kind, d) = field(m, b, 1) else {
         return Shown::Refused(5, b);
     };
-    message_rest(m, d, a, n, most, h, s, at, kind)
+    message_rest(m, d, a, n, longest, h, s, at, kind)
 }
 
 // A state change whose session starts at `at`, with AS numbers of `width` octets.
@@ -186,12 +186,12 @@ pub fn state_change(m: &[u8], at: usize, width: usize, h: Header) -> Shown
 }
 
 // The same for a BGP message.
-pub fn bgp_message(m: &[u8], at: usize, width: usize, most: u64, h: Header) -> Shown
+pub fn bgp_message(m: &[u8], at: usize, width: usize, longest: u64, h: Header) -> Shown
     requires { ⌜ width ≤ 8 ⌝ }
-    ensures { λ r. ⌜ r ≡ whole (show.message h) Refused (session width (message most)) (now (m .entry)) at ⌝ }
+    ensures { λ r. ⌜ r ≡ whole (show.message h) Refused (session width (message longest)) (now (m .entry)) at ⌝ }
 {
     match session_at(m, at, width) {
-        Met::With(s, a) => message_at(m, a, most, h, s),
+        Met::With(s, a) => message_at(m, a, longest, h, s),
         Met::Bad(n, p) => Shown::Refused(n, p),
     }
 }

@@ -5,19 +5,19 @@ ghost use mathlib.Core.Bool.{true};
 ghost use Prim.Native.Nat.{_≤_};
 ghost use lib.Dec.{leb};
 ghost use lib.ListN.{length};
-ghost use Rattle.form.specs.Record.{next};
-ghost use Rattle.form.specs.Dump.{Splits};
-ghost use Rattle.page.specs.Bgp4mp.{longestMessage};
-ghost use Rattle.page.specs.Layout.{layout};
-ghost use Rattle.moving.specs.Laid.{laid};
-ghost use Rattle.cut_laws.specs.Answer.{leftOf, cutAnswer, leaves};
+ghost use Rattle.form_spec.specs.Record.{next};
+ghost use Rattle.form_spec.specs.Dump.{Splits};
+ghost use Rattle.page_spec.specs.Bgp4mp.{longestMessage};
+ghost use Rattle.page_spec.specs.Layout.{layout};
+ghost use Rattle.cut_spec.specs.Laid.{laid};
+ghost use Rattle.cut_spec.specs.Answer.{leftOf, cutAnswer, cutLeaves};
 ghost use Rattle.room_spec.specs.Room.{written, holds};
-ghost use Rattle.look.specs.Sort.{sortOf, isTable};
-ghost use Rattle.cut.specs.State.{stateOf, shownAt, recAt};
+ghost use Rattle.look_spec.specs.Sort.{sortOf, isTable};
+ghost use Rattle.cut.specs.State.{stateTold, shownAt, recAt};
 ghost use Rattle.cut.specs.Stands.{InStep, Stands};
 use cut_fate::Window;
 use cut_fate::fate_of;
-use cut_items::fill_news;
+use cut_items::fill_new_indexes;
 use cut_lay::Far;
 use cut_lay::lay;
 use cut_lay::pass;
@@ -27,7 +27,7 @@ use look::is_peer_table;
 use look::peer_count_at;
 use look::subtype_of;
 use look::type_of;
-use page::LONGEST_MESSAGE;
+use page_spec::LONGEST_MESSAGE;
 use room_spec::Written;
 use walk::walk_with;
 
@@ -39,26 +39,26 @@ pub struct InForce {
     pub lost: bool,
 }
 
-// The table in force behind the record at `at`, before which f is; news are filled anew at a peer table.
+// The table in force behind the record at `at`, before which f is; new_indexes are filled anew at a peer table.
 fn table_behind(
     d: &[u8],
     at: usize,
     table: bool,
     f: InForce,
     mutes: &[u32],
-    news: &mut [u16; 65536],
+    new_indexes: &mut [u16; 65536],
     longest: u64,
 ) -> InForce
-    requires { ⌜ Stands longest (now mutes) (now news) (now d) at f ⌝ }
+    requires { ⌜ Stands longest (now mutes) (now «new_indexes») (now d) at f ⌝ }
     requires { ⌜ table ≡ isTable (sortOf (shownAt longest (now d) f at)) ⌝ }
-    requires { ⌜ length (now news) ≡ 65536 ⌝ }
-    ensures { λ r. ⌜ (stateOf (now (d .entry)) r ≡ next (layout longest) (recAt longest (now (d .entry)) f at) (stateOf (now (d .entry)) f)) × InStep (now (mutes .entry)) (now (news .exit)) (now (d .entry)) r × (length (now (news .exit)) ≡ 65536) ⌝ }
+    requires { ⌜ length (now «new_indexes») ≡ 65536 ⌝ }
+    ensures { λ r. ⌜ (stateTold (now (d .entry)) r ≡ next (layout longest) (recAt longest (now (d .entry)) f at) (stateTold (now (d .entry)) f)) × InStep (now (mutes .entry)) (now («new_indexes» .exit)) (now (d .entry)) r × (length (now («new_indexes» .exit)) ≡ 65536) ⌝ }
 {
     if table {
         let counted = peer_count_at(d, at);
         let from = counted + 2;
         let peers = count(d, counted);
-        let kept = fill_news(d, from, peers, mutes, news);
+        let kept = fill_new_indexes(d, from, peers, mutes, new_indexes);
         return InForce {
             seen: true,
             from,
@@ -74,15 +74,15 @@ fn leave(
     d: &[u8],
     w: Window,
     mutes: &[u32],
-    news: &mut [u16; 65536],
+    new_indexes: &mut [u16; 65536],
     out: &mut [u8],
     lays: bool,
     longest: u64,
 ) -> usize
     requires { ⌜ Splits (layout longest) (now d) ⌝ }
-    requires { ⌜ length (now news) ≡ 65536 ⌝ }
+    requires { ⌜ length (now «new_indexes») ≡ 65536 ⌝ }
     requires { ⌜ (lays ≡ true → length (leftOf longest (w .start) (w .end) (now mutes) (now d)) ≤ length (now out)) ⌝ }
-    ensures { λ r. ⌜ (r ≡ length (leftOf longest (w .start) (w .end) (now (mutes .entry)) (now (d .entry)))) × (now (out .exit) ≡ laid lays (now (out .entry)) 0 (leftOf longest (w .start) (w .end) (now (mutes .entry)) (now (d .entry)))) × (length (now (news .exit)) ≡ 65536) ⌝ }
+    ensures { λ r. ⌜ (r ≡ length (leftOf longest (w .start) (w .end) (now (mutes .entry)) (now (d .entry)))) × (now (out .exit) ≡ laid lays (now (out .entry)) 0 (leftOf longest (w .start) (w .end) (now (mutes .entry)) (now (d .entry)))) × (length (now («new_indexes» .exit)) ≡ 65536) ⌝ }
 {
     let mut at = 0;
     let mut s = Far { run: 0, put: 0 };
@@ -95,12 +95,20 @@ fn leave(
     while at < d.len() {
         let ty = type_of(d, at);
         let subtype = subtype_of(d, at);
-        f = table_behind(d, at, is_peer_table(ty, subtype), f, mutes, news, longest);
+        f = table_behind(
+            d,
+            at,
+            is_peer_table(ty, subtype),
+            f,
+            mutes,
+            new_indexes,
+            longest,
+        );
         let next = end_at(d, at);
         let lost = f.lost;
         let peers = f.count;
         let x = fate_of(d, at, ty, subtype, w, mutes, lost);
-        s = pass(d, at, next, x, peers, news, s, out, lays);
+        s = pass(d, at, next, x, peers, new_indexes, s, out, lays);
         at = next;
     }
     let run = s.run;
@@ -113,16 +121,16 @@ fn fits(
     dump: &[u8],
     w: Window,
     mutes: &[u32],
-    news: &mut [u16; 65536],
+    new_indexes: &mut [u16; 65536],
     out: &mut [u8],
     longest: u64,
 ) -> bool
     requires { ⌜ Splits (layout longest) (now dump) ⌝ }
-    requires { ⌜ length (now news) ≡ 65536 ⌝ }
-    ensures { λ r. ⌜ (r ≡ leb (length (leftOf longest (w .start) (w .end) (now (mutes .entry)) (now (dump .entry)))) (length (now (out .entry)))) × (now (out .exit) ≡ now (out .entry)) × (length (now (news .exit)) ≡ 65536) ⌝ }
+    requires { ⌜ length (now «new_indexes») ≡ 65536 ⌝ }
+    ensures { λ r. ⌜ (r ≡ leb (length (leftOf longest (w .start) (w .end) (now (mutes .entry)) (now (dump .entry)))) (length (now (out .entry)))) × (now (out .exit) ≡ now (out .entry)) × (length (now («new_indexes» .exit)) ≡ 65536) ⌝ }
 {
     if out.len() < dump.len() {
-        return leave(dump, w, mutes, news, out, false, longest) <= out.len();
+        return leave(dump, w, mutes, new_indexes, out, false, longest) <= out.len();
     }
     true
 }
@@ -132,9 +140,9 @@ fn left_of(dump: &[u8], w: Window, mutes: &[u32], out: &mut [u8], longest: u64) 
     requires { ⌜ Splits (layout longest) (now dump) ⌝ }
     ensures { λ r. ⌜ (r ≡ written 0 0 (leftOf longest (w .start) (w .end) (now (mutes .entry)) (now (dump .entry))) (now (out .entry))) × (now (out .exit) ≡ holds 0 (leftOf longest (w .start) (w .end) (now (mutes .entry)) (now (dump .entry))) (now (out .entry))) ⌝ }
 {
-    let mut news = [0u16; 65536];
-    if fits(dump, w, mutes, &mut news, out, longest) {
-        return Written::Octets(leave(dump, w, mutes, &mut news, out, true, longest));
+    let mut new_indexes = [0u16; 65536];
+    if fits(dump, w, mutes, &mut new_indexes, out, longest) {
+        return Written::Octets(leave(dump, w, mutes, &mut new_indexes, out, true, longest));
     }
     Written::Refused(15, 0)
 }
@@ -149,7 +157,7 @@ pub fn cut_with(
     out: &mut [u8],
     longest: u64,
 ) -> Written
-    ensures { λ r. ⌜ (r ≡ cutAnswer longest start end (now (mutes .entry)) (now (dump .entry)) (now (out .entry))) × (now (out .exit) ≡ leaves longest start end (now (mutes .entry)) (now (dump .entry)) (now (out .entry))) ⌝ }
+    ensures { λ r. ⌜ (r ≡ cutAnswer longest start end (now (mutes .entry)) (now (dump .entry)) (now (out .entry))) × (now (out .exit) ≡ cutLeaves longest start end (now (mutes .entry)) (now (dump .entry)) (now (out .entry))) ⌝ }
 {
     if end < start {
         return Written::Refused(14, 0);
@@ -164,7 +172,7 @@ pub fn cut_with(
 }
 
 pub fn cut(dump: &[u8], start: u64, end: u64, mutes: &[u32], out: &mut [u8]) -> Written
-    ensures { λ r. ⌜ (r ≡ cutAnswer longestMessage start end (now (mutes .entry)) (now (dump .entry)) (now (out .entry))) × (now (out .exit) ≡ leaves longestMessage start end (now (mutes .entry)) (now (dump .entry)) (now (out .entry))) ⌝ }
+    ensures { λ r. ⌜ (r ≡ cutAnswer longestMessage start end (now (mutes .entry)) (now (dump .entry)) (now (out .entry))) × (now (out .exit) ≡ cutLeaves longestMessage start end (now (mutes .entry)) (now (dump .entry)) (now (out .entry))) ⌝ }
 {
     cut_with(dump, start, end, mutes, out, LONGEST_MESSAGE)
 }

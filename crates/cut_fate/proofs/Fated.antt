@@ -1,19 +1,19 @@
--- What becomes of a record, from what code has found of it. Assumes nothing.
+-- What becomes of a record, from what code has found of it.
 use mathlib.Core.Path.{_≡_, ap₂, _∙_}
 use mathlib.Core.Bool.{Bool, cond, not, _&&_}
 use mathlib.Core.List.{List}
 use Prim.Native.Nat.{ℕ, _+_, _-_}
 use lib.Dec.{leb, ltb}
-use Rattle.num.specs.Be.{numAt}
-use Rattle.shown.specs.declared.Shown.{Shown}
-use Rattle.look.specs.Sort as sort
-use Rattle.look.specs.Sort.{sortOf}
-use Rattle.look.specs.Field.{timeOf, peerOf, itemsAt, countOf, Counted}
-use Rattle.look.proofs.There.{items-counted}
-use Rattle.cutting.specs.Cut.{mem}
-use Rattle.cut_fate.specs.Fate.{fateOf}
-use Rattle.cut_fate.specs.declared.Fate.{Fate}
-use Rattle.cut_fate.specs.declared.Fate.the-variants.{Stays, Goes, Peers, Entries}
+use Rattle.octets_spec.specs.Be.{numAt}
+use Rattle.record_spec.specs.declared.Shown.{Shown}
+use Rattle.look_spec.specs.Sort as sort
+use Rattle.look_spec.specs.Sort.{sortOf}
+use Rattle.look_spec.specs.Field.{timeOf, peerOf, itemsAt, countOf, Counted}
+use Rattle.look_laws.proofs.There.{items-counted}
+use Rattle.cut_spec.specs.Cut.{mem}
+use Rattle.cut_spec.specs.Fate.{fateOf}
+use Rattle.cut_spec.specs.declared.Fate.{Fate}
+use Rattle.cut_spec.specs.declared.Fate.the-variants.{Stays, Goes, Peers, Entries}
 
 -- items that are counted at r
 module _ {d : List ℕ} {at r n : ℕ} {x : Shown} (c : Counted d at r x) (e : n ≡ numAt d r 2) where

@@ -2,13 +2,14 @@
 ghost use mathlib.Core.Path.{_≡_};
 ghost use mathlib.Core.Bool.{_&&_, not, cond};
 ghost use lib.Dec.{leb, ltb};
-ghost use Rattle.look.specs.Sort as sort;
-ghost use Rattle.look.specs.Sort.{sortOf};
-ghost use Rattle.look.specs.Field.{typeOf, subtypeOf, timeOf, itemsAt, countOf, Is, Shows};
-ghost use Rattle.cutting.specs.Cut.{mem};
-ghost use Rattle.cut_fate.specs.Fate.{fateOf};
-ghost use Rattle.cut_fate.specs.declared.Fate.the-variants as fated;
+ghost use Rattle.look_spec.specs.Sort as sort;
+ghost use Rattle.look_spec.specs.Sort.{sortOf};
+ghost use Rattle.look_spec.specs.Field.{typeOf, subtypeOf, timeOf, itemsAt, countOf, Is, Shows};
+ghost use Rattle.cut_spec.specs.Cut.{mem};
+ghost use Rattle.cut_spec.specs.Fate.{fateOf};
+ghost use Rattle.cut_spec.specs.declared.Fate.the-variants as fated;
 use cut_items::listed;
+use cut_spec::Fate;
 use look::count;
 use look::entry_count_at;
 use look::late_session_peer;
@@ -22,16 +23,6 @@ use look::session_peer;
 pub struct Window {
     pub start: u64,
     pub end: u64,
-}
-
-// What becomes of a record.
-pub enum Fate {
-    // it stays as it is
-    Stays,
-    Goes,
-    // a table or a RIB record that is laid item by item: where they start behind the record's start, and how many they are
-    Peers(usize, u64),
-    Entries(usize, u64),
 }
 
 fn inside(time: u64, w: Window) -> bool

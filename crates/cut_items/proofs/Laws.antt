@@ -1,4 +1,4 @@
--- Laws of the list of the muted, and of one entry and one peer as they are laid. Assumes nothing.
+-- Laws of the list of the muted, and of one entry and one peer as they are laid.
 use mathlib.Core.Path.{_≡_, refl, sym, ap, _∙_}
 use mathlib.Core.Bool.{Bool, true, false, cond}
 use mathlib.Core.List.{List, [], _∷_, _++_}
@@ -8,17 +8,17 @@ use native.Mathlib.Numerals.{add-one}
 use lib.ListN.{length, take, drop, getD, drop-of-length-le}
 use lib.Seq.{drop-cons}
 use borrow.Author.Tests.{eq-eqb, ne-eqb}
-use Rattle.form.specs.Octets.{toBe, Octets}
-use Rattle.form.specs.Fmt.{Fits, join}
-use Rattle.form.specs.Found.{Lies, item}
-use Rattle.form.specs.Words.{checked}
-use Rattle.form.proofs.Found.{fits-of, item-octets}
-use Rattle.form.proofs.Octets.{octets-drop, length-toBe}
-use Rattle.cutting.specs.Cut.{mem, renumber}
-use Rattle.page.specs.Rib.{entry}
-use Rattle.page.specs.Peers.{peer}
-use Rattle.copy.specs.Over.{over}
-use Rattle.moving.proofs.Laid.{over-within}
+use Rattle.form_spec.specs.Octets.{toBe, Octets}
+use Rattle.form_spec.specs.Fmt.{Fits, join}
+use Rattle.form_spec.specs.Found.{Lies, item}
+use Rattle.form_spec.specs.Words.{checked}
+use Rattle.form_laws.proofs.Found.{fits-of, item-octets}
+use Rattle.form_laws.proofs.Octets.{octets-drop, length-toBe}
+use Rattle.cut_spec.specs.Cut.{mem, renumber}
+use Rattle.page_spec.specs.Rib.{entry}
+use Rattle.page_spec.specs.Peers.{peer}
+use Rattle.octets_spec.specs.Over.{over}
+use Rattle.cut_laws.proofs.Laid.{over-within}
 
 -- ---- the list of the muted
 

@@ -1,4 +1,4 @@
--- The loops over the items of a record, for any format and any way to pick what stays. Assumes nothing.
+-- The loops over the items of a record, for any format and any way to pick what stays.
 use mathlib.Core.Path.{_≡_, refl, sym, ap, _∙_}
 use mathlib.Core.Bool.{Bool, true, false, cond}
 use mathlib.Core.List.{List, [], _∷_, _++_}
@@ -6,20 +6,20 @@ use Prim.Native.Nat.{ℕ, suc, _+_, _-_, _≤_, _<_}
 use native.Mathlib.Omega.{arith}
 use lib.ListN.{length, drop, getD, length-append}
 use lib.Dec.{leb}
-use Rattle.form.specs.Octets.{Octets}
-use Rattle.form.specs.Fmt.{Fmt, Fits, join}
-use Rattle.form.specs.Body.{joins}
-use Rattle.form.proofs.Octets.{octets-drop}
-use Rattle.cutting.specs.Keep.{consUnless}
-use Rattle.cutting.specs.Cut.{renumber}
-use Rattle.form.specs.Shape.{indexOf}
-use Rattle.cutting.proofs.Cut.{renumber-length}
-use Rattle.page.specs.Rib.{entryRest, entry}
-use Rattle.form.specs.Found.{Lie, items, item}
-use Rattle.moving.specs.Moved.{moved, sieved}
-use Rattle.moving.specs.Laid.{laid, Roomy}
-use Rattle.form.proofs.Found.{Here, leftN, here-of, tail, Next, next, none-left}
-use Rattle.moving.proofs.Laid.{laid-nothing, laid-behind-some, length-laid}
+use Rattle.form_spec.specs.Octets.{Octets}
+use Rattle.form_spec.specs.Fmt.{Fmt, Fits, join}
+use Rattle.form_spec.specs.Body.{joins}
+use Rattle.form_laws.proofs.Octets.{octets-drop}
+use Rattle.cut_spec.specs.Keep.{consUnless}
+use Rattle.cut_spec.specs.Cut.{renumber}
+use Rattle.form_spec.specs.Shape.{indexOf}
+use Rattle.cut_laws.proofs.Cut.{renumber-length}
+use Rattle.page_spec.specs.Rib.{entryRest, entry}
+use Rattle.form_spec.specs.Found.{Lie, items, item}
+use Rattle.cut_spec.specs.Moved.{moved, sieved}
+use Rattle.cut_spec.specs.Laid.{laid, Roomy}
+use Rattle.form_laws.proofs.Found.{Here, leftN, here-of, tail, Next, next, none-left}
+use Rattle.cut_laws.proofs.Laid.{laid-nothing, laid-behind-some, length-laid}
 
 -- what stays of items, the first of which is the i-th: each goes, or stays as another with as many octets
 pub record Sieve (f : Fmt) (stay : ℕ → List (List (List ℕ)) → List (List (List ℕ))) (gone : ℕ → List (List ℕ) → Bool) (new : List (List ℕ) → List (List ℕ)) : Type 0 where
@@ -27,12 +27,12 @@ pub record Sieve (f : Fmt) (stay : ℕ → List (List (List ℕ)) → List (List
   pub each : (i : ℕ) (it : List (List ℕ)) (its : List (List (List ℕ))) → stay i (it ∷ its) ≡ consUnless (gone i it) (new it) (stay (i + 1) its)
   pub same : (it : List (List ℕ)) → Fits f it → length (join (new it)) ≡ length (join it)
 
-pub moves : (n : ℕ) (news : List ℕ) → Sieve (entry n) (λ i. moved news) (λ i it. leb 65535 (getD news (indexOf it) 0)) (λ it. renumber (getD news (indexOf it) 0) it)
+pub moves : (n : ℕ) (newIndexes : List ℕ) → Sieve (entry n) (λ i. moved newIndexes) (λ i it. leb 65535 (getD newIndexes (indexOf it) 0)) (λ it. renumber (getD newIndexes (indexOf it) 0) it)
 unfolding entry
-moves n news = record { none = λ i. refl; each = λ i it its. refl; same = λ it h. renumber-length n (getD news (indexOf it) 0) entryRest it h }
+moves n newIndexes = record { none = λ i. refl; each = λ i it its. refl; same = λ it h. renumber-length n (getD newIndexes (indexOf it) 0) entryRest it h }
 
-pub keeps : (f : Fmt) (news : List ℕ) → Sieve f (sieved news) (λ i it. leb 65535 (getD news i 0)) (λ it. it)
-keeps f news = record { none = λ i. refl; each = λ i it its. refl; same = λ it h. refl }
+pub keeps : (f : Fmt) (newIndexes : List ℕ) → Sieve f (sieved newIndexes) (λ i it. leb 65535 (getD newIndexes i 0)) (λ it. it)
+keeps f newIndexes = record { none = λ i. refl; each = λ i it its. refl; same = λ it h. refl }
 
 -- ---- one item more
 

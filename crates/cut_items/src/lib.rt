@@ -1,28 +1,28 @@
 // The items of a record in a cut: a RIB record's entries, and a table's peers. m is a dump whose records are good.
-// news has the new index of each peer of the table in force, 65535 for one that goes.
+// new_indexes has the new index of each peer of the table in force, 65535 for one that goes.
 ghost use mathlib.Core.Path.{_≡_};
 ghost use mathlib.Core.Bool.{cond, true, false};
 ghost use mathlib.Core.List.{[], map};
 ghost use Prim.Native.Nat.{_+_, _^_, _≤_, _<_};
 ghost use lib.Dec.{leb};
 ghost use lib.ListN.{length, drop, getD, take};
-ghost use Rattle.form.specs.Fmt.{join};
-ghost use Rattle.form.specs.Body.{joins};
-ghost use Rattle.form.specs.Shape.{asOf};
-ghost use Rattle.page.specs.Rib.{entry};
-ghost use Rattle.page.specs.Peers.{peer};
-ghost use Rattle.cutting.specs.Keep.{kept};
-ghost use Rattle.cutting.specs.Cut.{mem, renumber};
-ghost use Rattle.copy.specs.Over.{over};
-ghost use Rattle.form.specs.Found.{Lie, items, Lies, item};
-ghost use Rattle.moving.specs.Moved.{moved, newFrom, sieved};
-ghost use Rattle.moving.specs.Laid.{laid, Roomy};
+ghost use Rattle.form_spec.specs.Fmt.{join};
+ghost use Rattle.form_spec.specs.Body.{joins};
+ghost use Rattle.form_spec.specs.Shape.{asOf};
+ghost use Rattle.page_spec.specs.Rib.{entry};
+ghost use Rattle.page_spec.specs.Peers.{peer};
+ghost use Rattle.cut_spec.specs.Keep.{kept};
+ghost use Rattle.cut_spec.specs.Cut.{mem, renumber};
+ghost use Rattle.octets_spec.specs.Over.{over};
+ghost use Rattle.form_spec.specs.Found.{Lie, items, Lies, item};
+ghost use Rattle.cut_spec.specs.Moved.{moved, newIndexesFrom, sieved};
+ghost use Rattle.cut_spec.specs.Laid.{laid, Roomy};
 use blocks::copy_block;
 use look::entry_index;
 use look::entry_size;
 use look::peer_as;
 use look::peer_end;
-use num::put_number;
+use octets::put_number;
 
 // How many items stay, and where what was laid of them ends.
 pub struct Laid {
@@ -45,11 +45,11 @@ pub fn listed(number: u64, mutes: &[u32]) -> bool
 }
 
 // The one routine that tells what becomes of a peer.
-fn new_index(index: usize, news: &[u16; 65536]) -> u16
+fn new_index(index: usize, new_indexes: &[u16; 65536]) -> u16
     requires { ⌜ index < 65536 ⌝ }
-    ensures { λ r. ⌜ r ≡ getD (now (news .entry)) index 0 ⌝ }
+    ensures { λ r. ⌜ r ≡ getD (now («new_indexes» .entry)) index 0 ⌝ }
 {
-    news[index]
+    new_indexes[index]
 }
 
 // ---- entries
@@ -90,22 +90,22 @@ pub fn lay_entries(
     from: usize,
     count: u64,
     peers: u64,
-    news: &[u16; 65536],
+    new_indexes: &[u16; 65536],
     out: &mut [u8],
     put: usize,
     lays: bool,
 ) -> Laid
     requires { ⌜ Lie (entry peers) count (drop from (now m)) ⌝ }
     requires { ⌜ put ≤ from ⌝ }
-    requires { ⌜ Roomy lays (now out) put (moved (now news) (items (entry peers) count (drop from (now m)))) ⌝ }
-    ensures { λ r. ⌜ (r .kept ≡ length (moved (now (news .entry)) (items (entry peers) count (drop from (now (m .entry)))))) × (r .end ≡ put + length (joins (moved (now (news .entry)) (items (entry peers) count (drop from (now (m .entry))))))) × (now (out .exit) ≡ laid lays (now (out .entry)) put (joins (moved (now (news .entry)) (items (entry peers) count (drop from (now (m .entry))))))) ⌝ }
+    requires { ⌜ Roomy lays (now out) put (moved (now «new_indexes») (items (entry peers) count (drop from (now m)))) ⌝ }
+    ensures { λ r. ⌜ (r .kept ≡ length (moved (now («new_indexes» .entry)) (items (entry peers) count (drop from (now (m .entry)))))) × (r .end ≡ put + length (joins (moved (now («new_indexes» .entry)) (items (entry peers) count (drop from (now (m .entry))))))) × (now (out .exit) ≡ laid lays (now (out .entry)) put (joins (moved (now («new_indexes» .entry)) (items (entry peers) count (drop from (now (m .entry))))))) ⌝ }
 {
     let mut at = from;
     let mut left = count;
     let mut s = Laid { kept: 0, end: put };
     while 0 < left {
         let size = entry_size(m, at);
-        let new = new_index(entry_index(m, at), news);
+        let new = new_index(entry_index(m, at), new_indexes);
         s = lay_entry(m, at, size, peers, new, out, s, lays);
         at += size;
         left -= 1;
@@ -134,18 +134,24 @@ fn count_of(gone: bool, k: u16) -> u16
     k + 1
 }
 
-// Fills news for a table of so many peers, the first at `from`; answers how many of them stay. Each AS number is looked up once.
-pub fn fill_news(m: &[u8], from: usize, count: u64, mutes: &[u32], news: &mut [u16; 65536]) -> u64
+// Fills new_indexes for a table of so many peers, the first at `from`; answers how many of them stay. Each AS number is looked up once.
+pub fn fill_new_indexes(
+    m: &[u8],
+    from: usize,
+    count: u64,
+    mutes: &[u32],
+    new_indexes: &mut [u16; 65536],
+) -> u64
     requires { ⌜ Lie peer count (drop from (now m)) ⌝ }
-    requires { ⌜ (length (now news) ≡ 65536) × (count < 65536) ⌝ }
-    ensures { λ r. ⌜ (r ≡ length (kept (λ n. mem n (now (mutes .entry))) (map (asOf peer) (items peer count (drop from (now (m .entry))))))) × (now (news .exit) ≡ over (now (news .entry)) 0 (newFrom (λ n. mem n (now (mutes .entry))) (map (asOf peer) (items peer count (drop from (now (m .entry))))) 0)) ⌝ }
+    requires { ⌜ (length (now «new_indexes») ≡ 65536) × (count < 65536) ⌝ }
+    ensures { λ r. ⌜ (r ≡ length (kept (λ n. mem n (now (mutes .entry))) (map (asOf peer) (items peer count (drop from (now (m .entry))))))) × (now («new_indexes» .exit) ≡ over (now («new_indexes» .entry)) 0 (newIndexesFrom (λ n. mem n (now (mutes .entry))) (map (asOf peer) (items peer count (drop from (now (m .entry))))) 0)) ⌝ }
 {
     let mut at = from;
     let mut i = 0;
     let mut k: u16 = 0;
     while (i as u64) < count {
         let gone = listed(peer_as(m, at), mutes);
-        news[i] = index_of(gone, k);
+        new_indexes[i] = index_of(gone, k);
         k = count_of(gone, k);
         at = peer_end(m, at);
         i += 1;
@@ -185,22 +191,22 @@ pub fn lay_peers(
     m: &[u8],
     from: usize,
     count: u64,
-    news: &[u16; 65536],
+    new_indexes: &[u16; 65536],
     out: &mut [u8],
     put: usize,
     lays: bool,
 ) -> Laid
     requires { ⌜ Lie peer count (drop from (now m)) ⌝ }
     requires { ⌜ (count < 65536) × (put ≤ from) ⌝ }
-    requires { ⌜ Roomy lays (now out) put (sieved (now news) 0 (items peer count (drop from (now m)))) ⌝ }
-    ensures { λ r. ⌜ (r .kept ≡ length (sieved (now (news .entry)) 0 (items peer count (drop from (now (m .entry)))))) × (r .end ≡ put + length (joins (sieved (now (news .entry)) 0 (items peer count (drop from (now (m .entry))))))) × (now (out .exit) ≡ laid lays (now (out .entry)) put (joins (sieved (now (news .entry)) 0 (items peer count (drop from (now (m .entry))))))) ⌝ }
+    requires { ⌜ Roomy lays (now out) put (sieved (now «new_indexes») 0 (items peer count (drop from (now m)))) ⌝ }
+    ensures { λ r. ⌜ (r .kept ≡ length (sieved (now («new_indexes» .entry)) 0 (items peer count (drop from (now (m .entry)))))) × (r .end ≡ put + length (joins (sieved (now («new_indexes» .entry)) 0 (items peer count (drop from (now (m .entry))))))) × (now (out .exit) ≡ laid lays (now (out .entry)) put (joins (sieved (now («new_indexes» .entry)) 0 (items peer count (drop from (now (m .entry))))))) ⌝ }
 {
     let mut at = from;
     let mut i = 0;
     let mut s = Laid { kept: 0, end: put };
     while (i as u64) < count {
         let next = peer_end(m, at);
-        let gone = 65535 <= new_index(i, news);
+        let gone = 65535 <= new_index(i, new_indexes);
         s = lay_peer(m, at, next - at, gone, out, s, lays);
         at = next;
         i += 1;

@@ -1,23 +1,23 @@
--- A record with items: where they lie, and what is written of it with other items. Assumes nothing.
+-- A record with items: where they lie, and what is written of it with other items.
 use mathlib.Core.Path.{_≡_, refl, sym, ap, _∙_, subst}
 use mathlib.Core.List.{List, _++_, append-assoc, append-nil}
 use Prim.Native.Nat.{ℕ, _+_, _-_, _≤_, _<_}
 use native.Mathlib.Omega.{arith}
 use lib.ListN.{length, take, drop, length-append, length-drop}
 use lib.Seq.{take-at, drop-at, drop-drop, take-append-seam, length-take-le}
-use Rattle.form.specs.Octets.{toBe}
-use Rattle.form.specs.Fmt.{Fmt, join}
-use Rattle.form.specs.Body.{Body, listed, many, joins, spell, AllFits, BodyFits}
-use Rattle.form.specs.Record.{Rec, write, size}
-use Rattle.form.specs.Put as put
-use Rattle.form.specs.Gives.{tailOf}
-use Rattle.form.proofs.Octets.{length-toBe}
-use Rattle.form.proofs.Record.{length-write}
-use Rattle.shown.specs.declared.Part.{Part}
-use Rattle.reading.specs.Answer.{within}
-use Rattle.form.specs.Found.{Lie, items}
-use Rattle.moving.specs.One.{itemsLeft}
-use Rattle.form.proofs.Found.{lie-of}
+use Rattle.form_spec.specs.Octets.{toBe}
+use Rattle.form_spec.specs.Fmt.{Fmt, join}
+use Rattle.form_spec.specs.Body.{Body, listed, many, joins, spell, AllFits, BodyFits}
+use Rattle.form_spec.specs.Record.{Rec, write, size}
+use Rattle.form_spec.specs.Put as put
+use Rattle.form_spec.specs.Gives.{tailOf}
+use Rattle.form_laws.proofs.Octets.{length-toBe}
+use Rattle.form_laws.proofs.Record.{length-write}
+use Rattle.record_spec.specs.declared.Part.{Part}
+use Rattle.record_spec.specs.Answer.{within}
+use Rattle.form_spec.specs.Found.{Lie, items}
+use Rattle.cut_spec.specs.One.{itemsLeft}
+use Rattle.form_laws.proofs.Found.{lie-of}
 
 -- the record with other items
 abbrev pub withItems : Rec → List (List ℕ) → List (List (List ℕ)) → Rec

@@ -1,4 +1,4 @@
--- A record with other items, as it is laid: its items behind room for the front, and then the front. Assumes nothing.
+-- A record with other items, as it is laid: its items behind room for the front, and then the front.
 use mathlib.Core.Path.{_≡_, refl, sym, ap, _∙_}
 use mathlib.Core.Bool.{Bool, true, false, cond, _||_, false≢true}
 use mathlib.Core.List.{List, [], _∷_, _++_, append-assoc}
@@ -8,15 +8,15 @@ use lib.Dec.{ltb, eqb}
 use lib.ListN.{length, take, drop, length-append, length-drop}
 use lib.Seq.{take-add, drop-drop, length-take-le}
 use borrow.Author.Tests.{lt-ltb, ltb-false}
-use Rattle.form.specs.Octets.{toBe}
-use Rattle.form.specs.Body.{joins}
-use Rattle.form.proofs.Octets.{length-toBe}
-use Rattle.copy.specs.Over.{over}
-use Rattle.copy.proofs.Laws.{more}
-use Rattle.moving.specs.One.{itemsLeft}
-use Rattle.moving.specs.Laid.{laid, Room}
-use Rattle.moving.proofs.Laid.{over-within, laid-before, length-laid}
-use Rattle.cut_lay.specs.Left.{frontLeft}
+use Rattle.form_spec.specs.Octets.{toBe}
+use Rattle.form_spec.specs.Body.{joins}
+use Rattle.form_laws.proofs.Octets.{length-toBe}
+use Rattle.octets_spec.specs.Over.{over}
+use Rattle.octets_laws.proofs.Over.{more}
+use Rattle.cut_spec.specs.One.{itemsLeft}
+use Rattle.cut_spec.specs.Laid.{laid, Room}
+use Rattle.cut_laws.proofs.Laid.{over-within, laid-before, length-laid}
+use Rattle.cut_spec.specs.Left.{frontLeft}
 
 length-part : (d : List ℕ) (at n : ℕ) → at + n ≤ length d → length (take n (drop at d)) ≡ n
 length-part d at n h = let k : n ≤ length (drop at d) = simp length-drop (omega arith) in length-take-le n (drop at d) k

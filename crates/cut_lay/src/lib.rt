@@ -4,16 +4,16 @@ ghost use mathlib.Core.Bool.{_||_};
 ghost use Prim.Native.Nat.{_+_, _-_, _≤_, _<_};
 ghost use lib.Dec.{ltb, eqb};
 ghost use lib.ListN.{length, drop};
-ghost use Rattle.form.specs.Found.{Lie};
-ghost use Rattle.page.specs.Rib.{entry};
-ghost use Rattle.page.specs.Peers.{peer};
-ghost use Rattle.moving.specs.Laid.{laid, Room, between, Passed};
-ghost use Rattle.cut_lay.specs.Left.{frontLeft, tableLeft, ribLeft, octetsOf, Sound};
+ghost use Rattle.form_spec.specs.Found.{Lie};
+ghost use Rattle.page_spec.specs.Rib.{entry};
+ghost use Rattle.page_spec.specs.Peers.{peer};
+ghost use Rattle.cut_spec.specs.Laid.{laid, Room, between, Passed};
+ghost use Rattle.cut_spec.specs.Left.{frontLeft, tableLeft, ribLeft, octetsOf, Sound};
 use blocks::copy_blocks;
-use cut_fate::Fate;
 use cut_items::lay_entries;
 use cut_items::lay_peers;
-use num::put_number;
+use cut_spec::Fate;
+use octets::put_number;
 
 // How far the cut has come: records from `run` on stay, and are to be laid at `put`.
 pub struct Far {
@@ -79,19 +79,19 @@ fn lay_rib(
     off: usize,
     count: u64,
     peers: u64,
-    news: &[u16; 65536],
+    new_indexes: &[u16; 65536],
     out: &mut [u8],
     put: usize,
     lays: bool,
 ) -> usize
     requires { ⌜ (14 ≤ off) × (at + off ≤ length (now d)) × Lie (entry peers) count (drop (at + off) (now d)) ⌝ }
     requires { ⌜ put ≤ at ⌝ }
-    requires { ⌜ Room lays (now out) put (length (ribLeft (now news) (now d) at off count peers)) ⌝ }
-    ensures { λ r. ⌜ (r ≡ put + length (ribLeft (now (news .entry)) (now (d .entry)) at off count peers)) × (now (out .exit) ≡ laid lays (now (out .entry)) put (ribLeft (now (news .entry)) (now (d .entry)) at off count peers)) ⌝ }
+    requires { ⌜ Room lays (now out) put (length (ribLeft (now «new_indexes») (now d) at off count peers)) ⌝ }
+    ensures { λ r. ⌜ (r ≡ put + length (ribLeft (now («new_indexes» .entry)) (now (d .entry)) at off count peers)) × (now (out .exit) ≡ laid lays (now (out .entry)) put (ribLeft (now («new_indexes» .entry)) (now (d .entry)) at off count peers)) ⌝ }
 {
     let from = at + off;
     let room = put + off;
-    let items = lay_entries(d, from, count, peers, news, out, room, lays);
+    let items = lay_entries(d, from, count, peers, new_indexes, out, room, lays);
     let kept = items.kept;
     let end = items.end;
     if remains(kept, count) {
@@ -107,19 +107,19 @@ fn lay_table(
     at: usize,
     off: usize,
     count: u64,
-    news: &[u16; 65536],
+    new_indexes: &[u16; 65536],
     out: &mut [u8],
     put: usize,
     lays: bool,
 ) -> usize
     requires { ⌜ (14 ≤ off) × (at + off ≤ length (now d)) × (count < 65536) × Lie peer count (drop (at + off) (now d)) ⌝ }
     requires { ⌜ put ≤ at ⌝ }
-    requires { ⌜ Room lays (now out) put (length (tableLeft (now news) (now d) at off count)) ⌝ }
-    ensures { λ r. ⌜ (r ≡ put + length (tableLeft (now (news .entry)) (now (d .entry)) at off count)) × (now (out .exit) ≡ laid lays (now (out .entry)) put (tableLeft (now (news .entry)) (now (d .entry)) at off count)) ⌝ }
+    requires { ⌜ Room lays (now out) put (length (tableLeft (now «new_indexes») (now d) at off count)) ⌝ }
+    ensures { λ r. ⌜ (r ≡ put + length (tableLeft (now («new_indexes» .entry)) (now (d .entry)) at off count)) × (now (out .exit) ≡ laid lays (now (out .entry)) put (tableLeft (now («new_indexes» .entry)) (now (d .entry)) at off count)) ⌝ }
 {
     let from = at + off;
     let room = put + off;
-    let items = lay_peers(d, from, count, news, out, room, lays);
+    let items = lay_peers(d, from, count, new_indexes, out, room, lays);
     let kept = items.kept;
     let end = items.end;
     lay_front(d, at, from - 2, kept, out, put, end, lays);
@@ -153,15 +153,15 @@ pub fn pass(
     next: usize,
     x: Fate,
     peers: u64,
-    news: &[u16; 65536],
+    new_indexes: &[u16; 65536],
     s: Far,
     out: &mut [u8],
     lays: bool,
 ) -> Far
     requires { ⌜ (s .put ≤ s .run) × (s .run ≤ at) × (at ≤ next) × (next ≤ length (now d)) ⌝ }
     requires { ⌜ Sound (now d) at peers x ⌝ }
-    requires { ⌜ Room lays (now out) (s .put) (at - s .run + length (octetsOf (now news) (now d) at next peers x)) ⌝ }
-    ensures { λ r. ⌜ Passed lays (now (d .entry)) (now (out .entry)) (now (out .exit)) (octetsOf (now (news .entry)) (now (d .entry)) at next peers x) at next (s .run) (s .put) (r .run) (r .put) ⌝ }
+    requires { ⌜ Room lays (now out) (s .put) (at - s .run + length (octetsOf (now «new_indexes») (now d) at next peers x)) ⌝ }
+    ensures { λ r. ⌜ Passed lays (now (d .entry)) (now (out .entry)) (now (out .exit)) (octetsOf (now («new_indexes» .entry)) (now (d .entry)) at next peers x) at next (s .run) (s .put) (r .run) (r .put) ⌝ }
 {
     let run = s.run;
     let put = s.put;
@@ -176,7 +176,7 @@ pub fn pass(
         }
         Fate::Peers(off, count) => {
             let here = lay(d, run, at, out, put, lays);
-            let end = lay_table(d, at, off, count, news, out, here, lays);
+            let end = lay_table(d, at, off, count, new_indexes, out, here, lays);
             Far {
                 run: next,
                 put: end,
@@ -184,7 +184,7 @@ pub fn pass(
         }
         Fate::Entries(off, count) => {
             let here = lay(d, run, at, out, put, lays);
-            let end = lay_rib(d, at, off, count, peers, news, out, here, lays);
+            let end = lay_rib(d, at, off, count, peers, new_indexes, out, here, lays);
             Far {
                 run: next,
                 put: end,

@@ -4,7 +4,7 @@
 ghost use Prim.Native.Nat.{_+_, _*_, _≤_};
 ghost use lib.ListN.{length};
 use libc::STDOUT_FILENO;
-use num::number;
+use octets::number;
 use room_spec::Written;
 
 fn key(name: &[u8], value: u64) {

@@ -1,23 +1,20 @@
 // The library's calls for C and Rust (include/dagsumilat.h).
 ghost use mathlib.Core.Path.{_≡_};
-ghost use Rattle.form.specs.Pass.{pass};
-ghost use Rattle.page.specs.Peers as page;
-ghost use Rattle.page.specs.Bgp4mp.{longestMessage};
-ghost use Rattle.shown.specs.Fields as show;
-ghost use Rattle.shown.specs.declared.Peer.the-variants as peers;
-ghost use Rattle.shown.specs.declared.Entry.the-variants as entries;
-ghost use Rattle.walking.specs.Walked.{walked};
-ghost use Rattle.cut_laws.specs.Answer.{cutAnswer, leaves};
-ghost use Rattle.dagsumilat.specs.Answers as words;
-ghost use Rattle.look.specs.Field.{typeOf, subtypeOf, itemsAt, countOf, Known, Is, Shows, Counted};
-ghost use Rattle.look.specs.Sort as sort;
-ghost use Rattle.dagsumilat.specs.Telling.{none, tableOf, countOfTable, noRecord, good, bySort, toldAt};
-ghost use Rattle.dagsumilat.specs.Unjudged.{entryFields};
+ghost use Rattle.form_spec.specs.Pass.{pass};
+ghost use Rattle.page_spec.specs.Peers as page;
+ghost use Rattle.page_spec.specs.Bgp4mp.{longestMessage};
+ghost use Rattle.record_spec.specs.Fields as show;
+ghost use Rattle.record_spec.specs.declared.Peer.the-variants as peers;
+ghost use Rattle.record_spec.specs.declared.Entry.the-variants as entries;
+ghost use Rattle.walk_spec.specs.Walked.{walked};
+ghost use Rattle.cut_spec.specs.Answer.{cutAnswer, cutLeaves};
+ghost use Rattle.dagsumilat_spec.specs.Answers as words;
+ghost use Rattle.look_spec.specs.Field.{typeOf, subtypeOf, itemsAt, countOf, Known, Is, Shows, Counted};
+ghost use Rattle.look_spec.specs.Sort as sort;
+ghost use Rattle.dagsumilat_spec.specs.RecordAnswers.{none, tableByCount, countOfTable, noRecord, good, bySort, answerAt};
+ghost use Rattle.dagsumilat_spec.specs.Unjudged.{entryFields};
 use cut::cut;
-use flow::Num;
-use flow::Room;
-use flow::field;
-use flow::skip;
+use dagsumilat_spec::RecordAnswer;
 use look::count;
 use look::entry_count_at;
 use look::late_session_peer;
@@ -26,37 +23,26 @@ use look::route_peer;
 use look::session_peer;
 use look::subtype_of;
 use look::type_of;
-use page::LONGEST_MESSAGE;
+use octets::field;
+use octets::skip;
+use octets_spec::Num;
+use octets_spec::Room;
+use page_spec::LONGEST_MESSAGE;
 use peers::peer_at;
+use record_spec::Entry;
+use record_spec::Part;
+use record_spec::Peer;
+use record_spec::Table;
 use room_spec::Written;
-use shown::Entry;
-use shown::Part;
-use shown::Peer;
-use shown::Table;
 use walk::step_with;
 use walk::walk;
-use walking::Item;
-use walking::Step;
-
-// A record: where it ends, the table in force behind it, its peer AS, where its items start, counted from its header, and how many
-// they are; or a fault's number and place.
-pub struct Told {
-    pub fault: u8,
-    pub place: usize,
-    pub table: u64,
-    pub time: u64,
-    pub ty: u16,
-    pub subtype: u16,
-    pub length: u32,
-    pub peer: u64,
-    pub items: usize,
-    pub count: u64,
-}
+use walk_spec::Item;
+use walk_spec::Step;
 
 // The first fault's number and place, or 0 and the dump's length, and how many records stand before it.
 #[no_mangle]
 pub extern "C" fn dagsumilat_check(dump: &[u8], answer: &mut [u64; 3])
-    ensures { λ _. ⌜ now (answer .exit) ≡ words.checked (now (answer .entry)) (walked longestMessage (now (dump .entry))) ⌝ }
+    ensures { λ _. ⌜ now (answer .exit) ≡ words.checkWords (now (answer .entry)) (walked longestMessage (now (dump .entry))) ⌝ }
 {
     let w = walk(dump);
     let fault = w.fault;
@@ -77,7 +63,7 @@ pub extern "C" fn dagsumilat_cut(
     out: &mut [u8],
     answer: &mut [u64; 3],
 )
-    ensures { λ _. ⌜ (now (answer .exit) ≡ words.cutted (now (answer .entry)) (cutAnswer longestMessage from to (now (mutes .entry)) (now (dump .entry)) (now (out .entry)))) × (now (out .exit) ≡ leaves longestMessage from to (now (mutes .entry)) (now (dump .entry)) (now (out .entry))) ⌝ }
+    ensures { λ _. ⌜ (now (answer .exit) ≡ words.cutWords (now (answer .entry)) (cutAnswer longestMessage from to (now (mutes .entry)) (now (dump .entry)) (now (out .entry)))) × (now (out .exit) ≡ cutLeaves longestMessage from to (now (mutes .entry)) (now (dump .entry)) (now (out .entry))) ⌝ }
 {
     match cut(dump, from, to, mutes, out) {
         Written::Octets(n) => {
@@ -94,7 +80,7 @@ pub extern "C" fn dagsumilat_cut(
 }
 
 fn table_of(table: u64) -> Table
-    ensures { λ r. ⌜ r ≡ tableOf table ⌝ }
+    ensures { λ r. ⌜ r ≡ tableByCount table ⌝ }
 {
     if table == 18446744073709551615 {
         return Table::Absent;
@@ -111,10 +97,10 @@ fn count_of_table(t: Table) -> u64
     }
 }
 
-fn no_record(fault: u8, at: usize, table: u64) -> Told
+fn no_record(fault: u8, at: usize, table: u64) -> RecordAnswer
     ensures { λ r. ⌜ r ≡ noRecord fault at table ⌝ }
 {
-    Told {
+    RecordAnswer {
         fault,
         place: at,
         table,
@@ -128,7 +114,7 @@ fn no_record(fault: u8, at: usize, table: u64) -> Told
     }
 }
 
-fn good(i: Item, table: u64, peer: u64, items: usize, count: u64) -> Told
+fn good(i: Item, table: u64, peer: u64, items: usize, count: u64) -> RecordAnswer
     ensures { λ r. ⌜ r ≡ good i table peer items count ⌝ }
 {
     let place = i.next;
@@ -136,7 +122,7 @@ fn good(i: Item, table: u64, peer: u64, items: usize, count: u64) -> Told
     let ty = i.ty;
     let subtype = i.subtype;
     let length = i.length;
-    Told {
+    RecordAnswer {
         fault: 0,
         place,
         table,
@@ -162,7 +148,7 @@ fn counted_at(d: &[u8], at: usize, subtype: u64) -> usize
 }
 
 // A good record of type 13.
-fn items_told(d: &[u8], at: usize, i: Item, subtype: u64, table: u64) -> Told
+fn items_answer(d: &[u8], at: usize, i: Item, subtype: u64, table: u64) -> RecordAnswer
     requires { ⌜ Is (now d) at (λ x. (typeOf x ≡ 13) × (subtypeOf x ≡ subtype)) ⌝ }
     ensures { λ r. ⌜ Shows (now (d .entry)) at (λ x. r ≡ good i table none (itemsAt x) (countOf x)) ⌝ }
 {
@@ -172,7 +158,7 @@ fn items_told(d: &[u8], at: usize, i: Item, subtype: u64, table: u64) -> Told
 }
 
 // The good record at `at`, behind which `table` is in force.
-fn good_told(d: &[u8], at: usize, i: Item, table: u64) -> Told
+fn good_answer(d: &[u8], at: usize, i: Item, table: u64) -> RecordAnswer
     requires { ⌜ Known (now d) at ⌝ }
     ensures { λ r. ⌜ Shows (now (d .entry)) at (λ x. r ≡ bySort i table x (sort.sortOf x)) ⌝ }
 {
@@ -180,29 +166,29 @@ fn good_told(d: &[u8], at: usize, i: Item, table: u64) -> Told
     let subtype = subtype_of(d, at);
     match type_of(d, at) {
         12 => good(i, table, route_peer(d, at, subtype), 0, 0),
-        13 => items_told(d, at, i, subtype, table),
+        13 => items_answer(d, at, i, subtype, table),
         16 => good(i, table, session_peer(d, at, subtype), 0, 0),
         17 => good(i, table, late_session_peer(d, at, subtype), 0, 0),
         _ => good(i, table, none, 0, 0),
     }
 }
 
-fn told_at(d: &[u8], at: usize, table: u64, longest: u64) -> Told
-    ensures { λ r. ⌜ r ≡ toldAt longest table (now (d .entry)) at ⌝ }
+fn answer_at(d: &[u8], at: usize, table: u64, longest: u64) -> RecordAnswer
+    ensures { λ r. ⌜ r ≡ answerAt longest table (now (d .entry)) at ⌝ }
 {
     match step_with(d, at, table_of(table), longest) {
         Step::End => no_record(0, at, table),
         Step::Fault(n, p) => no_record(n, p, table),
-        Step::Record(i, behind) => good_told(d, at, i, count_of_table(behind)),
+        Step::Record(i, behind) => good_answer(d, at, i, count_of_table(behind)),
     }
 }
 
 // The record that starts at `at`, where `table` is the number of peers of the table in force.
 #[no_mangle]
 pub extern "C" fn dagsumilat_record(dump: &[u8], at: usize, table: u64, answer: &mut [u64; 10])
-    ensures { λ _. ⌜ now (answer .exit) ≡ words.told (now (answer .entry)) (toldAt longestMessage table (now (dump .entry)) at) ⌝ }
+    ensures { λ _. ⌜ now (answer .exit) ≡ words.recordWords (now (answer .entry)) (answerAt longestMessage table (now (dump .entry)) at) ⌝ }
 {
-    let t = told_at(dump, at, table, LONGEST_MESSAGE);
+    let t = answer_at(dump, at, table, LONGEST_MESSAGE);
     let fault = t.fault;
     let place = t.place;
     let ty = t.ty;
@@ -224,7 +210,7 @@ pub extern "C" fn dagsumilat_record(dump: &[u8], at: usize, table: u64, answer: 
 // The peer of a table that starts at `at`.
 #[no_mangle]
 pub extern "C" fn dagsumilat_peer(dump: &[u8], at: usize, answer: &mut [u64; 7])
-    ensures { λ _. ⌜ now (answer .exit) ≡ words.peer (now (answer .entry)) (pass show.peer peers.Bad page.peer (now (dump .entry)) at) ⌝ }
+    ensures { λ _. ⌜ now (answer .exit) ≡ words.peerWords (now (answer .entry)) (pass show.peer peers.Bad page.peer (now (dump .entry)) at) ⌝ }
 {
     match peer_at(dump, at) {
         Peer::Of(kind, id, address, number, next) => {
@@ -272,7 +258,7 @@ fn entry_fields(d: &[u8], at: usize) -> Entry
 // The entry of a RIB record that starts at `at`. It is not judged: that was done with its record.
 #[no_mangle]
 pub extern "C" fn dagsumilat_entry(dump: &[u8], at: usize, answer: &mut [u64; 6])
-    ensures { λ _. ⌜ now (answer .exit) ≡ words.entry (now (answer .entry)) (pass show.entry entries.Bad entryFields (now (dump .entry)) at) ⌝ }
+    ensures { λ _. ⌜ now (answer .exit) ≡ words.entryWords (now (answer .entry)) (pass show.entry entries.Bad entryFields (now (dump .entry)) at) ⌝ }
 {
     match entry_fields(dump, at) {
         Entry::At(index, originated, attributes, next) => {

@@ -1,7 +1,7 @@
 // The choice of a layout: a match on the Type, then on ranges of the Subtype.
 ghost use mathlib.Core.Path.{_≡_};
-ghost use Rattle.page.specs.Layout.{kind12, kind13, kind16, kind};
-use page::Kind;
+ghost use Rattle.page_spec.specs.Layout.{kind12, kind13, kind16, kind};
+use page_spec::Kind;
 
 pub fn kind_12(sub: u64) -> Kind
     ensures { λ r. ⌜ r ≡ kind12 sub ⌝ }

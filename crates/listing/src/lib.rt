@@ -1,9 +1,9 @@
 // Prints a dump's records before the first fault, one line each, then the fault. What the numbers mean is in crate walk.
 use libc::STDOUT_FILENO;
-use shown::Table;
+use record_spec::Table;
 use walk::step_at;
-use walking::Item;
-use walking::Step;
+use walk_spec::Item;
+use walk_spec::Step;
 
 fn number(key: &[u8], value: u64) {
     io::write_all(STDOUT_FILENO, key);

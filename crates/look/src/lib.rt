@@ -5,16 +5,16 @@ ghost use mathlib.Core.Bool.{true, false, cond};
 ghost use Prim.Native.Nat.{_+_, _*_, _/_, _%_, _^_, _≤_, _<_};
 ghost use lib.Dec.{eqb};
 ghost use lib.ListN.{length, drop, getD};
-ghost use Rattle.form.specs.Fmt.{join};
-ghost use Rattle.form.specs.Shape.{asOf, indexOf};
-ghost use Rattle.num.specs.Be.{numAt};
-ghost use Rattle.page.specs.Peers.{peer};
-ghost use Rattle.form.specs.Found.{Lies, item};
-ghost use Rattle.page.specs.Layout.{finer};
-ghost use Rattle.look.specs.Field.{typeOf, subtypeOf, timeOf, peerOf, widthOf, Known, Is, Shows, Ends, Counted};
-ghost use Rattle.look.specs.Sort.{table, rib, sortOf, sortBy, isTable};
-ghost use Rattle.look.specs.Items.{SomeEntry, EachEntry, addressSize, peerEnd};
-use num::number;
+ghost use Rattle.form_spec.specs.Fmt.{join};
+ghost use Rattle.form_spec.specs.Shape.{asOf, indexOf};
+ghost use Rattle.octets_spec.specs.Be.{numAt};
+ghost use Rattle.page_spec.specs.Peers.{peer};
+ghost use Rattle.form_spec.specs.Found.{Lies, item};
+ghost use Rattle.page_spec.specs.Layout.{finer};
+ghost use Rattle.look_spec.specs.Field.{typeOf, subtypeOf, timeOf, peerOf, widthOf, Known, Is, Shows, Ends, Counted};
+ghost use Rattle.look_spec.specs.Sort.{table, rib, sortOf, sortBy, isTable};
+ghost use Rattle.look_spec.specs.Items.{SomeEntry, EachEntry, addressSize, peerEnd};
+use octets::number;
 
 // Where the record ends.
 pub fn end_at(d: &[u8], at: usize) -> usize
@@ -94,7 +94,7 @@ fn behind_width(width: usize) -> u64
 }
 
 // The AS number that a session at `from` starts with. 4 octets are there in any case, and are read at once: neighbouring records differ
-// in their subtypes, and a branch would be guessed wrong.
+// in their subtypes, and a branch would be mispredicted.
 fn first_as(d: &[u8], from: usize, subtype: u64) -> u64
     requires { ⌜ from + 4 ≤ length (now d) ⌝ }
     ensures { λ r. ⌜ r ≡ numAt (now (d .entry)) from (widthOf subtype) ⌝ }

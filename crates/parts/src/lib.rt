@@ -1,14 +1,14 @@
 // Document 01's answers for what reading one record showed, and its parts, where they lie.
 ghost use mathlib.Core.Path.{_≡_};
-ghost use Rattle.reading.specs.Answer as answer;
-use copy::part;
-use shown::Body;
-use shown::Entry;
-use shown::Header;
-use shown::Part;
-use shown::Peer;
-use shown::Shown;
-use shown::Table;
+ghost use Rattle.record_spec.specs.Answer as answer;
+use octets::part;
+use record_spec::Body;
+use record_spec::Entry;
+use record_spec::Header;
+use record_spec::Part;
+use record_spec::Peer;
+use record_spec::Shown;
+use record_spec::Table;
 
 // The fault's number, 0 for none.
 pub fn fault(r: Shown) -> u8
@@ -99,7 +99,7 @@ pub fn table_behind(t: Table, b: Body) -> Table
 
 // An entry's attributes.
 pub fn attributes(m: &[u8], e: Entry) -> &[u8]
-    ensures { λ r. ⌜ now r ≡ answer.entryAttributes (now (m .entry)) e ⌝ }
+    ensures { λ r. ⌜ now r ≡ answer.attributesIn (now (m .entry)) e ⌝ }
 {
     match e {
         Entry::At(_, _, p, _) => within(m, p),
@@ -109,7 +109,7 @@ pub fn attributes(m: &[u8], e: Entry) -> &[u8]
 
 // A peer's address.
 pub fn address(m: &[u8], p: Peer) -> &[u8]
-    ensures { λ r. ⌜ now r ≡ answer.peerAddress (now (m .entry)) p ⌝ }
+    ensures { λ r. ⌜ now r ≡ answer.addressIn (now (m .entry)) p ⌝ }
 {
     match p {
         Peer::Of(_, _, a, _, _) => within(m, a),

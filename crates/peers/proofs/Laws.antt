@@ -1,13 +1,13 @@
--- What a loop over peers says to the laws of loops over items. Assumes nothing.
+-- What a loop over peers says to the laws of loops over items.
 use mathlib.Core.Path.{_≡_, refl}
 use mathlib.Core.List.{List}
 use Prim.Native.Nat.{ℕ}
-use Rattle.form.specs.Pass.{Seen}
-use Rattle.shown.specs.Fields.{peer}
-use Rattle.shown.specs.declared.Peer.{Peer}
-use Rattle.shown.specs.declared.Peer.the-variants.{Of, Bad}
-use Rattle.shown.specs.declared.Shown.{Shown}
-use Rattle.shown.specs.declared.Shown.the-variants.{Refused}
+use Rattle.form_spec.specs.Pass.{Seen}
+use Rattle.record_spec.specs.Fields.{peer}
+use Rattle.record_spec.specs.declared.Peer.{Peer}
+use Rattle.record_spec.specs.declared.Peer.the-variants.{Of, Bad}
+use Rattle.record_spec.specs.declared.Shown.{Shown}
+use Rattle.record_spec.specs.declared.Shown.the-variants.{Refused}
 
 -- behind a peer that was read f goes on; a fault stays
 abbrev pub onward : Peer → (ℕ → Shown) → Shown

@@ -1,25 +1,24 @@
 // Type 13, subtype 1: the peer table. m is the record from its header to its last octet.
 ghost use mathlib.Core.Path.{_≡_};
 ghost use Prim.Native.Nat.{_+_, _≤_};
-ghost use Rattle.form.specs.Pass.{pass, whole, times};
-ghost use Rattle.page.specs.Peers.{peerRest, peerSized, peer, peerTable};
-ghost use Rattle.shown.specs.Fields.{partOf, restFrom};
-ghost use Rattle.shown.specs.Fields as show;
-ghost use Rattle.form.specs.Pass.{numberOf};
-ghost use Rattle.page.specs.Names.{peerAs, peerAddress};
-ghost use Rattle.shown.specs.declared.Shown.the-variants.{Refused};
-ghost use Rattle.shown.specs.declared.Peer.the-variants.{Of, Bad};
-use flow::Num;
-use flow::Room;
-use flow::field;
-use flow::left;
-use flow::skip;
-use shown::Body;
-use shown::Header;
-use shown::Part;
-use shown::Peer;
-use shown::Peers;
-use shown::Shown;
+ghost use Rattle.form_spec.specs.Pass.{pass, whole, times, numberOf};
+ghost use Rattle.page_spec.specs.Peers.{peerRest, peerSized, peer, peerTable};
+ghost use Rattle.record_spec.specs.Fields.{partOf, restFrom};
+ghost use Rattle.record_spec.specs.Fields as show;
+ghost use Rattle.page_spec.specs.Names.{peerAs, peerAddress};
+ghost use Rattle.record_spec.specs.declared.Shown.the-variants.{Refused};
+ghost use Rattle.record_spec.specs.declared.Peer.the-variants.{Of, Bad};
+use octets::field;
+use octets::left;
+use octets::skip;
+use octets_spec::Num;
+use octets_spec::Room;
+use record_spec::Body;
+use record_spec::Header;
+use record_spec::Part;
+use record_spec::Peer;
+use record_spec::Peers;
+use record_spec::Shown;
 
 fn peer_rest(m: &[u8], at: usize, size: usize, width: usize, kind: u64, id: u64) -> Peer
     requires { ⌜ width ≤ 8 ⌝ }

@@ -1,4 +1,4 @@
--- Ways through the definition of reading one record. Assumes nothing.
+-- Ways through the definition of reading one record.
 use mathlib.Core.Path.{_≡_, refl, sym, ap, _∙_}
 use mathlib.Core.List.{List}
 use Prim.Native.Nat.{ℕ, _+_, _^_, _≤_, _<_}
@@ -7,17 +7,17 @@ use native.Mathlib.Nat.{lt-of-lt-of-le, pow-le-pow-right}
 use mathlib.Core.Bool.{Bool, true, false}
 use lib.Dec.{ltb, lit<}
 use lib.ListN.{length, take, drop, getD, length-take}
-use Rattle.form.specs.Octets.{be}
-use Rattle.form.specs.Words.{choose}
-use Rattle.form.proofs.Octets.{octets-of, octets-take, octets-drop, be-lt}
-use Rattle.num.specs.Be.{numAt}
-use Rattle.flow.specs.Field.{fieldAt}
-use Rattle.flow.specs.declared.Num.{Num}
-use Rattle.flow.specs.declared.Num.the-variants.{Value, Short}
-use Rattle.shown.specs.declared.Shown.{Shown}
-use Rattle.shown.specs.declared.Shown.the-variants.{Refused}
-use Rattle.shown.specs.declared.Header.{Header}
-use Rattle.reading.specs.One.{header, behind}
+use Rattle.form_spec.specs.Octets.{be}
+use Rattle.form_spec.specs.Words.{choose}
+use Rattle.form_laws.proofs.Octets.{octets-of, octets-take, octets-drop, be-lt}
+use Rattle.octets_spec.specs.Be.{numAt}
+use Rattle.octets_spec.specs.Field.{fieldAt}
+use Rattle.octets_spec.specs.declared.Num.{Num}
+use Rattle.octets_spec.specs.declared.Num.the-variants.{Value, Short}
+use Rattle.record_spec.specs.declared.Shown.{Shown}
+use Rattle.record_spec.specs.declared.Shown.the-variants.{Refused}
+use Rattle.record_spec.specs.declared.Header.{Header}
+use Rattle.record_spec.specs.One.{header, behind}
 use Rattle.record.specs.Stamp.{stampOf}
 use Rattle.record.specs.declared.Stamp.{Stamp}
 use Rattle.record.specs.declared.Stamp.the-variants.{With}

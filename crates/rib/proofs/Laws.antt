@@ -1,13 +1,13 @@
--- What a loop over entries says to the laws of loops over items. Assumes nothing.
+-- What a loop over entries says to the laws of loops over items.
 use mathlib.Core.Path.{_≡_, refl}
 use mathlib.Core.List.{List}
 use Prim.Native.Nat.{ℕ}
-use Rattle.form.specs.Pass.{Seen}
-use Rattle.shown.specs.Fields.{entry}
-use Rattle.shown.specs.declared.Entry.{Entry}
-use Rattle.shown.specs.declared.Entry.the-variants.{At, Bad}
-use Rattle.shown.specs.declared.Shown.{Shown}
-use Rattle.shown.specs.declared.Shown.the-variants.{Refused}
+use Rattle.form_spec.specs.Pass.{Seen}
+use Rattle.record_spec.specs.Fields.{entry}
+use Rattle.record_spec.specs.declared.Entry.{Entry}
+use Rattle.record_spec.specs.declared.Entry.the-variants.{At, Bad}
+use Rattle.record_spec.specs.declared.Shown.{Shown}
+use Rattle.record_spec.specs.declared.Shown.the-variants.{Refused}
 
 -- behind an entry that was read f goes on; a fault stays
 abbrev pub onward : Entry → (ℕ → Shown) → Shown

@@ -1,28 +1,28 @@
 // Type 13, subtypes 2 to 6: RIB records. m is the record from its header to its last octet.
 ghost use mathlib.Core.Path.{_≡_};
 ghost use Prim.Native.Nat.{_+_, _≤_};
-ghost use Rattle.form.specs.Fmt.{end};
-ghost use Rattle.form.specs.Pass.{pass, whole, times};
-ghost use Rattle.page.specs.Rib.{tiling, entry, entryList, prefix, rib, ribGeneric};
-ghost use Rattle.shown.specs.Fields.{partOf, routesOf};
-ghost use Rattle.shown.specs.Fields as show;
-ghost use Rattle.page.specs.Names.{attributeOctets};
+ghost use Rattle.form_spec.specs.Fmt.{end};
+ghost use Rattle.form_spec.specs.Pass.{pass, whole, times};
+ghost use Rattle.page_spec.specs.Rib.{tiling, entry, entryList, prefix, rib, ribGeneric};
+ghost use Rattle.record_spec.specs.Fields.{partOf, routesOf};
+ghost use Rattle.record_spec.specs.Fields as show;
+ghost use Rattle.page_spec.specs.Names.{attributeOctets};
 ghost use Rattle.rib.specs.Tail.{tail};
-ghost use Rattle.shown.specs.declared.Shown.the-variants.{Refused};
-ghost use Rattle.shown.specs.declared.Entry.the-variants.{At, Bad};
-use copy::part;
-use flow::Num;
-use flow::Room;
-use flow::field;
-use flow::left;
-use flow::skip;
-use shown::Body;
-use shown::Entry;
-use shown::Header;
-use shown::Part;
-use shown::Routes;
-use shown::Scope;
-use shown::Shown;
+ghost use Rattle.record_spec.specs.declared.Shown.the-variants.{Refused};
+ghost use Rattle.record_spec.specs.declared.Entry.the-variants.{At, Bad};
+use octets::field;
+use octets::left;
+use octets::part;
+use octets::skip;
+use octets_spec::Num;
+use octets_spec::Room;
+use record_spec::Body;
+use record_spec::Entry;
+use record_spec::Header;
+use record_spec::Part;
+use record_spec::Routes;
+use record_spec::Scope;
+use record_spec::Shown;
 
 fn attributes_at(m: &[u8], at: usize, n: usize, index: u64, originated: u64) -> Entry
     ensures { λ r. ⌜ r ≡ pass (λ fs a p. At index originated (partOf attributeOctets fs) a) Bad (tiling n (end 0)) (now (m .entry)) at ⌝ }

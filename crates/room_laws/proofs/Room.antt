@@ -7,8 +7,8 @@ use native.Mathlib.Nat.{zero-add}
 use lib.Dec.{ltb}
 use lib.ListN.{length, drop}
 use borrow.Author.Tests.{lt-ltb, le-ltb}
-use Rattle.form.specs.Words.{choose}
-use Rattle.copy.specs.Over.{over}
+use Rattle.form_spec.specs.Words.{choose}
+use Rattle.octets_spec.specs.Over.{over}
 use Rattle.room_spec.specs.Room.{written, holds}
 use Rattle.room_spec.specs.declared.Written.{Written}
 use Rattle.room_spec.specs.declared.Written.the-variants.{Octets, Refused}

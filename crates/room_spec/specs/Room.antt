@@ -4,7 +4,7 @@ use mathlib.Core.List.{List, _++_}
 use Prim.Native.Nat.{ℕ, zero, suc}
 use lib.Dec.{ltb}
 use lib.ListN.{length, drop}
-use Rattle.form.specs.Words.{choose}
+use Rattle.form_spec.specs.Words.{choose}
 use Rattle.room_spec.specs.declared.Written.{Written}
 use Rattle.room_spec.specs.declared.Written.the-variants.{Octets, Refused}
 

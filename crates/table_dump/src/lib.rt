@@ -1,24 +1,24 @@
 // Type 12. m is the record from its header to its last octet.
 ghost use mathlib.Core.Path.{_≡_};
 ghost use Prim.Native.Nat.{_+_, _≤_};
-ghost use Rattle.form.specs.Fmt.{end};
-ghost use Rattle.form.specs.Pass.{whole};
-ghost use Rattle.page.specs.Rib.{tiling};
-ghost use Rattle.page.specs.TableDump.{tableDump, tableDumpRest};
-ghost use Rattle.shown.specs.Fields.{routeOf, routeRest};
-ghost use Rattle.shown.specs.Fields as show;
-ghost use Rattle.shown.specs.declared.Shown.the-variants.{Good, Refused};
-ghost use Rattle.shown.specs.declared.Body.the-variants.{TableDump};
-use copy::part;
-use flow::Num;
-use flow::Room;
-use flow::field;
-use flow::skip;
-use shown::Body;
-use shown::Header;
-use shown::Part;
-use shown::Route;
-use shown::Shown;
+ghost use Rattle.form_spec.specs.Fmt.{end};
+ghost use Rattle.form_spec.specs.Pass.{whole};
+ghost use Rattle.page_spec.specs.Rib.{tiling};
+ghost use Rattle.page_spec.specs.TableDump.{tableDump, tableDumpRest};
+ghost use Rattle.record_spec.specs.Fields.{routeOf, routeRest};
+ghost use Rattle.record_spec.specs.Fields as show;
+ghost use Rattle.record_spec.specs.declared.Shown.the-variants.{Good, Refused};
+ghost use Rattle.record_spec.specs.declared.Body.the-variants.{TableDump};
+use octets::field;
+use octets::part;
+use octets::skip;
+use octets_spec::Num;
+use octets_spec::Room;
+use record_spec::Body;
+use record_spec::Header;
+use record_spec::Part;
+use record_spec::Route;
+use record_spec::Shown;
 
 fn attributes_at(
     m: &[u8],

@@ -1,43 +1,52 @@
 -- The user's three demands as theorems about what the functions promise, each one line to the crate that proves it.
 --
--- A promise is an equation: `walk::walk` answers `walked`, `record::read_record` shows `readOne`, a writer answers `answers` and leaves
--- `leaves` in its buffer, `cut::cut` answers `cutAnswer` and leaves `leavesOf`. So what is said here of those definitions holds of every
--- call. `longest` is the longest BGP message; the public functions take `longestMessage` for it. Octets are numbers below 256.
+-- A promise is an equation: `walk::walk` answers `walked`, `record::read_record` shows `readOne`, a writer answers `writerAnswer` and leaves
+-- `writerLeaves` in its buffer, `cut::cut` answers `cutAnswer` and leaves `cutLeaves`. So what is said here of those definitions holds of
+-- every call. Octets are numbers below 256; `longest` counts the octets of the longest BGP message, and the public functions take
+-- `longestMessage` for it.
+--
+-- The words, and where they are defined:
+--   layout         page_spec/specs/Layout    document 01's layouts, by Type and Subtype
+--   Valid, write   form_spec/specs/Record    a well-formed record where a table is in force; its octets
+--   Splits         form_spec/specs/Dump      whole records, each valid where it stands, whose octets are the dump
+--   Tells          record_spec/specs/Tells   what a reader is told of the table in force
+--   Agrees         record_spec/specs/Agrees  refused with the same number and place, or shown with every field as it is in the octets
+--   again          record_spec/specs/Again   what is shown, handed to a writer
+--   Fair           record_laws/proofs/Written  fields of the form that a writer takes
+--   leftOf         cut_spec/specs/Answer     what is left of a dump, by `cut` of cut_spec/specs/Cut
 use mathlib.Core.Path.{_≡_}
 use mathlib.Core.Logic.{_↔_}
 use mathlib.Core.List.{List, [], _++_}
-use Prim.Native.Nat.{ℕ, suc, _≤_, _<_, min, max}
+use Prim.Native.Nat.{ℕ, suc, _+_, _≤_, _<_, min, max}
 use lib.ListN.{length, take, drop}
-use Rattle.form.specs.Octets.{Octets}
-use Rattle.form.specs.Shape.{Layout, St}
-use Rattle.form.specs.Record.{Rec, write, readRec, Valid}
-use Rattle.form.specs.Dump.{Splits}
-use Rattle.form.specs.Put.{Given, octets, recordRefusal}
-use Rattle.page.specs.Layout.{layout}
-use Rattle.page.specs.declared.Kind.{Kind}
-use Rattle.page.specs.declared.Kind.the-variants as chosen
-use Rattle.shown.specs.declared.Table.{Table}
-use Rattle.shown.specs.declared.Shown.{Shown}
-use Rattle.shown.specs.declared.Shown.the-variants.{Nothing}
-use Rattle.reading.specs.One.{readOne}
-use Rattle.reading.specs.Answer.{fault, place}
+use Rattle.form_spec.specs.Octets.{Octets}
+use Rattle.form_spec.specs.Shape.{Layout, St, noTable}
+use Rattle.form_spec.specs.Record.{Rec, write, readRec, Valid}
+use Rattle.form_spec.specs.Dump.{Splits, walkFrom, nexts}
+use Rattle.form_spec.specs.Put.{Given, octets, recordRefusal}
+use Rattle.page_spec.specs.Layout.{layout}
+use Rattle.page_spec.specs.declared.Kind.{Kind}
+use Rattle.page_spec.specs.declared.Kind.the-variants as chosen
+use Rattle.record_spec.specs.declared.Table.{Table}
+use Rattle.record_spec.specs.declared.Shown.{Shown}
+use Rattle.record_spec.specs.declared.Shown.the-variants.{Nothing}
+use Rattle.record_spec.specs.One.{readOne}
+use Rattle.record_spec.specs.Answer.{fault, place}
 use Rattle.room_spec.specs.declared.Written.the-variants as answer
-use Rattle.writing.specs.Only.{only}
-use Rattle.writing.specs.Verdict.{answers, leaves}
-use Rattle.round_trip.specs.Tells.{Tells}
-use Rattle.round_trip.specs.Agrees.{Agrees, writerOf}
-use Rattle.round_trip.specs.Again.{again}
-use Rattle.round_trip.proofs.Written.{Fair}
-use Rattle.walking.specs.Walked.{walked}
-use Rattle.walking.specs.declared.Walked.{Walked}
-use Rattle.cut_laws.specs.Answer as cut
-use Rattle.cut_laws.specs.Answer.{leftOf, cutAnswer}
+use Rattle.write_spec.specs.Only.{only}
+use Rattle.write_spec.specs.Verdict.{writerAnswer, writerLeaves}
+use Rattle.record_spec.specs.Tells.{Tells}
+use Rattle.record_spec.specs.Agrees.{Agrees, writerOf}
+use Rattle.record_spec.specs.Again.{again}
+use Rattle.record_laws.proofs.Written.{Fair}
+use Rattle.walk_spec.specs.Walked.{walked}
+use Rattle.cut_spec.specs.Answer.{leftOf, cutAnswer, cutLeaves}
 use Rattle.room_laws.proofs.Room as room
-use Rattle.round_trip.proofs.One as one
-use Rattle.round_trip.proofs.Accepts as accepts
-use Rattle.round_trip.proofs.Restores as restores
-use Rattle.round_trip.proofs.Written as writing
-use Rattle.walking.proofs.Demand2 as dumps
+use Rattle.record_laws.proofs.One as one
+use Rattle.record_laws.proofs.Accepts as accepts
+use Rattle.record_laws.proofs.Restores as restores
+use Rattle.record_laws.proofs.Written as writing
+use Rattle.walk_laws.proofs.Demand2 as dumps
 use Rattle.cut_laws.proofs.Answers as answers-of
 use Rattle.cut_laws.proofs.Demand3 as cuts
 
@@ -47,12 +56,12 @@ use Rattle.cut_laws.proofs.Demand3 as cuts
 -- their caller. What is left to say is that a refusal has a number and a place, and touches nothing.
 
 -- a writer that refuses leaves its buffer as it was
-pub refused-writer-touches-nothing : (lay : ℕ → ℕ → Layout) (st : St) (g : Given) (out : List ℕ) (n p : ℕ) → answers lay st g out ≡ answer.Refused n p → leaves lay st g out ≡ out
+pub refused-writer-touches-nothing : (lay : ℕ → ℕ → Layout) (st : St) (g : Given) (out : List ℕ) (n p : ℕ) → writerAnswer lay st g out ≡ answer.Refused n p → writerLeaves lay st g out ≡ out
 refused-writer-touches-nothing lay st g out n p e = room.untouched (recordRefusal lay st g) 0 (octets g) out n p e
 
 module _ (longest : ℕ) where
   -- so does a cut
-  pub refused-cut-touches-nothing : (from to : ℕ) (mutes d out : List ℕ) (n p : ℕ) → cutAnswer longest from to mutes d out ≡ answer.Refused n p → cut.leaves longest from to mutes d out ≡ out
+  pub refused-cut-touches-nothing : (from to : ℕ) (mutes d out : List ℕ) (n p : ℕ) → cutAnswer longest from to mutes d out ≡ answer.Refused n p → cutLeaves longest from to mutes d out ≡ out
   refused-cut-touches-nothing from to mutes d out n p e = answers-of.refused-untouched longest from to mutes d out n p e
 
   -- no octets are no record, and no fault
@@ -77,6 +86,12 @@ module _ (longest : ℕ) where
   pub splits-in-one-way : (d : List ℕ) (s u : Splits (layout longest) d) → s .0 ≡ u .0
   splits-in-one-way d s u = dumps.one-split longest d s u
 
+  -- the first faulty record decides: behind an accepted dump the walk goes on where it ends, with the table that it leaves in force
+  pub first-fault-decides : (a b : List ℕ) → Octets a → Octets b → (s : Splits (layout longest) a)
+      → let w = walkFrom (layout longest) (nexts (layout longest) (s .0) noTable) (length a) b in
+      walked longest (a ++ b) ≡ record { fault = w .fault; place = w .place; records = length (s .0) + length (w .recs) }
+  first-fault-decides a b p q s = dumps.past-accepted longest a b p q s
+
   -- one record alone: no fault exactly where a well-formed one starts the octets
   pub record-accepted-exactly : (t : Table) (st : St) → Tells t st → (s : List ℕ) → Octets s → 0 < length s
       → (fault (readOne longest t s) ≡ 0) ↔ ((r : Rec) × (q : List ℕ) × Valid (layout longest) st r × (write r ++ q ≡ s))
@@ -88,13 +103,13 @@ module _ (longest : ℕ) where
     x = readOne longest t s
 
     pub written-back : (other : Kind) (out : List ℕ) → place x ≤ length out
-        → (answers (only (writerOf x) other longest) st (again s x) out ≡ answer.Octets (place x)) × (leaves (only (writerOf x) other longest) st (again s x) out ≡ take (place x) s ++ drop (place x) out)
+        → (writerAnswer (only (writerOf x) other longest) st (again s x) out ≡ answer.Octets (place x)) × (writerLeaves (only (writerOf x) other longest) st (again s x) out ≡ take (place x) s ++ drop (place x) out)
     written-back other out h = let b = restores.writes-back longest t st told s o some good other out h in (b .answer, b .left)
 
   -- reading what a writer did not refuse shows the fields given: `again` of what is shown is what was given (`Fair`: of the writer's own form)
   pub read-back : (t : Table) (st : St) → Tells t st → (n a p : ℕ) (g : Given) → Fair n g → (out : List ℕ) (k : ℕ) → Octets out
       → let own = only n (chosen.Refused (suc a) p) longest in
-      answers own st g out ≡ answer.Octets k → (again (leaves own st g out) (readOne longest t (leaves own st g out)) ≡ g) × (place (readOne longest t (leaves own st g out)) ≡ k)
+      writerAnswer own st g out ≡ answer.Octets k → (again (writerLeaves own st g out) (readOne longest t (writerLeaves own st g out)) ≡ g) × (place (readOne longest t (writerLeaves own st g out)) ≡ k)
   read-back t st told n a p g fair out k o e = writing.shows-written longest t st told n a p g fair out k o e
 
   -- ==== Demand 3. A cut takes a window and a list of AS numbers; what it leaves is `leftOf`, the dump that document 01 defines.
@@ -102,8 +117,8 @@ module _ (longest : ℕ) where
   -- for every accepted dump and a buffer at least as long: that dump is written, it is accepted, and it is never longer
   pub cut-leaves-what-is-defined : (from to : ℕ) (mutes d out : List ℕ) → Octets d → walked longest d .fault ≡ 0 → from ≤ to → length d ≤ length out
       → let left = leftOf longest from to mutes d in
-      (cutAnswer longest from to mutes d out ≡ answer.Octets (length left)) × (take (length left) (cut.leaves longest from to mutes d out) ≡ left)
-      × (drop (length left) (cut.leaves longest from to mutes d out) ≡ drop (length left) out) × (walked longest left .fault ≡ 0) × (length left ≤ length d)
+      (cutAnswer longest from to mutes d out ≡ answer.Octets (length left)) × (take (length left) (cutLeaves longest from to mutes d out) ≡ left)
+      × (drop (length left) (cutLeaves longest from to mutes d out) ≡ drop (length left) out) × (walked longest left .fault ≡ 0) × (length left ≤ length d)
   cut-leaves-what-is-defined from to mutes d out o e w h = let c = cuts.cuts longest from to mutes d out o e w h in (c .answer, c .written, c .rest, c .accepted, c .less)
 
   -- cutting again is one cut with the windows' overlap and the lists joined
@@ -112,10 +127,14 @@ module _ (longest : ℕ) where
       let to = max from (min t u) in
       (leftOf longest g u ks (leftOf longest f t ms d) ≡ leftOf longest from to (ms ++ ks) d)
       × (cutAnswer longest g u ks (leftOf longest f t ms d) out ≡ cutAnswer longest from to (ms ++ ks) d out)
-      × (cut.leaves longest g u ks (leftOf longest f t ms d) out ≡ cut.leaves longest from to (ms ++ ks) d out)
+      × (cutLeaves longest g u ks (leftOf longest f t ms d) out ≡ cutLeaves longest from to (ms ++ ks) d out)
   cut-again f t g u ms ks d out o e w = let a = cuts.again longest f t g u ms ks d out o e w in (a .bytes, a .answer, a .left)
 
-  -- the cut of two dumps laid end to end is the two cuts laid end to end
+  -- the cut of two dumps laid end to end is the two cuts laid end to end, in the buffer too
   pub cut-of-both : (from to : ℕ) (mutes a b out : List ℕ) → Octets a → Octets b → walked longest a .fault ≡ 0 → walked longest b .fault ≡ 0 → from ≤ to → length (a ++ b) ≤ length out
-      → leftOf longest from to mutes (a ++ b) ≡ leftOf longest from to mutes a ++ leftOf longest from to mutes b
-  cut-of-both from to mutes a b out p q e f w h = cuts.both longest from to mutes a b out p q e f w h .bytes
+      → let first = leftOf longest from to mutes a in
+      let second = leftOf longest from to mutes b in
+      let held = cutLeaves longest from to mutes (a ++ b) out in
+      (leftOf longest from to mutes (a ++ b) ≡ first ++ second) × (cutAnswer longest from to mutes (a ++ b) out ≡ answer.Octets (length first + length second))
+      × (take (length first) held ≡ first) × (take (length second) (drop (length first) held) ≡ second)
+  cut-of-both from to mutes a b out p q e f w h = let c = cuts.both longest from to mutes a b out p q e f w h in (c .bytes, c .answer, c .first, c .second)

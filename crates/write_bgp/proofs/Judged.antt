@@ -1,4 +1,4 @@
--- What the reader says of a BGP message is the number with which a writer refuses it. Assumes nothing.
+-- What the reader says of a BGP message is the number with which a writer refuses it.
 use mathlib.Core.Path.{_≡_, refl, sym, ap, _∙_}
 use mathlib.Core.Bool.{Bool, true, false, cond}
 use mathlib.Core.List.{List}
@@ -7,20 +7,20 @@ use native.Mathlib.Omega.{arith}
 use lib.Dec.{ltb}
 use lib.ListN.{length, take, drop, length-take, length-drop}
 use borrow.Author.Tests.{lt-ltb, le-ltb, ltb-true, ltb-false}
-use Rattle.form.specs.Octets.{be}
-use Rattle.form.specs.Fmt.{end, test}
-use Rattle.form.specs.Pass.{Seen, note, pass, whole}
-use Rattle.form.specs.Put.{orElse, sized, refusal}
-use Rattle.form.specs.Words.{choose, num, skip, must, area, within}
-use Rattle.page.specs.Names.{marker, bgpLength, bgpType, bgpRest}
-use Rattle.page.specs.Bgp4mp.{message, messageRest}
-use Rattle.shown.specs.Fields.{messageOf}
-use Rattle.shown.specs.declared.Header.{Header}
-use Rattle.shown.specs.declared.Session.{Session}
-use Rattle.shown.specs.declared.Shown.{Shown}
-use Rattle.shown.specs.declared.Shown.the-variants.{Refused}
-use Rattle.writing.specs.Givens.{bgpValues}
-use Rattle.reading.specs.Answer.{fault}
+use Rattle.form_spec.specs.Octets.{be}
+use Rattle.form_spec.specs.Fmt.{end, test}
+use Rattle.form_spec.specs.Pass.{Seen, note, pass, whole}
+use Rattle.form_spec.specs.Put.{orElse, sized, refusal}
+use Rattle.form_spec.specs.Words.{choose, num, skip, must, area, inRange}
+use Rattle.page_spec.specs.Names.{marker, bgpLength, bgpType, bgpRest}
+use Rattle.page_spec.specs.Bgp4mp.{message, messageRest}
+use Rattle.record_spec.specs.Fields.{messageOf}
+use Rattle.record_spec.specs.declared.Header.{Header}
+use Rattle.record_spec.specs.declared.Session.{Session}
+use Rattle.record_spec.specs.declared.Shown.{Shown}
+use Rattle.record_spec.specs.declared.Shown.the-variants.{Refused}
+use Rattle.write_spec.specs.Givens.{bgpValues}
+use Rattle.record_spec.specs.Answer.{fault}
 
 -- n is the number of the refusal, or 0
 unfoldable Judged : ℕ → Shown → Type 0
@@ -32,7 +32,7 @@ abbrev ends : (long k : ℕ) → ℕ
 ends long k = cond (ltb long (19 + k)) 5 (cond (ltb (19 + k) long) 6 0)
 
 abbrev number : (longest long n : ℕ) → ℕ
-number longest long n = cond (ltb long 16) 5 (cond (ltb long 18) 5 (cond (ltb long 19) 5 (cond (within 19 n longest) (ends long (n - 19)) 10)))
+number longest long n = cond (ltb long 16) 5 (cond (ltb long 18) 5 (cond (ltb long 19) 5 (cond (inRange 19 n longest) (ends long (n - 19)) 10)))
 
 said : (k p : ℕ) → Judged k (Refused k p)
 unfolding Judged
@@ -44,9 +44,9 @@ either false m n x y p q = q
 
 -- behind the type octet: `to` is told where the message ends
 rest : (to : List Seen → ℕ → ℕ → Shown) (longest n : ℕ) (b : List ℕ) → ((fs : List Seen) (a p : ℕ) → Judged (cond (ltb a (length b)) 6 0) (to fs a p))
-    → Judged (cond (within 19 n longest) (ends (length b) (n - 19)) 10) (pass to Refused (messageRest longest n) b 19)
+    → Judged (cond (inRange 19 n longest) (ends (length b) (n - 19)) 10) (pass to Refused (messageRest longest n) b 19)
 unfolding pass messageRest must area
-rest to longest n b h = go (within 19 n longest)
+rest to longest n b h = go (inRange 19 n longest)
   where
     go : (w : Bool) → Judged (cond w (ends (length b) (n - 19)) 10) (pass to Refused (test (cond w 0 10) 3 (area bgpRest (n - 19) 3 (end (n - 16)))) b 19)
     go true = either (ltb (length b) (19 + (n - 19))) _ _ _ _ (said 5 _) (h _ (19 + (n - 19)) _)
@@ -101,7 +101,7 @@ ending long k h = go (ltb long (19 + k)) (ltb (19 + k) long) refl refl
 
 writes : (longest : ℕ) (b : List ℕ) → number longest (length b) (be (take 2 (drop 16 b))) ≡ refusal (message longest) (bgpValues b)
 unfolding refusal message messageRest num skip must area
-writes longest b = go (ltb (length b) 16) (ltb (length b) 18) (ltb (length b) 19) (within 19 n longest) refl refl refl
+writes longest b = go (ltb (length b) 16) (ltb (length b) 18) (ltb (length b) 19) (inRange 19 n longest) refl refl refl
   where
     n : ℕ
     n = be (take 2 (drop 16 b))

@@ -1,4 +1,4 @@
--- State changes and BGP messages as a writer has them: their kinds, and their octets. Assumes nothing.
+-- State changes and BGP messages as a writer has them: their kinds, and their octets.
 use mathlib.Core.Path.{_≡_, refl, sym, ap, _∙_}
 use mathlib.Core.List.{List, [], _∷_, _++_, append-assoc, append-nil}
 use Prim.Native.Nat.{ℕ, _+_, _≤_}
@@ -7,28 +7,28 @@ use lib.ListN.{length, take, drop, length-append, take-append-drop}
 use lib.Seq.{drop-drop}
 use types.Run.{OneOf, miss}
 use denote.Enum.Declared.{tagOf}
-use Rattle.form.specs.Fmt.{join}
-use Rattle.form.specs.Put.{Value, lay, message, large}
-use Rattle.form.specs.Words.{choose}
-use Rattle.form.proofs.Octets.{length-toBe}
-use Rattle.page.specs.Layout.{kind, kind16}
-use Rattle.page.specs.declared.Kind.{Kind}
-use Rattle.page.specs.declared.Kind.the-variants.{Refused, Unread, TableDump, PeerTable, Rib, RibGeneric, Change, Message}
-use Rattle.page.proofs.Kind as declared
-use Rattle.page.specs.Sane.{Sane}
-use Rattle.page.proofs.Widths.{sane16, Stamps, stamps16}
-use Rattle.writing.specs.Times.{microOf, micros, bgp4mp}
-use Rattle.writing.specs.Only.{asOctets}
-use Rattle.writing.specs.Givens.{sessionValues, stateValues, bgpValues, bgpGiven}
-use Rattle.writing.specs.declared.Time.{Time}
-use Rattle.writing.specs.declared.Time.the-variants.{Seconds, Micro}
-use Rattle.writing.proofs.Answers.{micros-long}
-use Rattle.writing.proofs.Laid.{both}
+use Rattle.form_spec.specs.Fmt.{join}
+use Rattle.form_spec.specs.Put.{Value, lay, message, large}
+use Rattle.form_spec.specs.Words.{choose}
+use Rattle.form_laws.proofs.Octets.{length-toBe}
+use Rattle.page_spec.specs.Layout.{kind, kind16}
+use Rattle.page_spec.specs.declared.Kind.{Kind}
+use Rattle.page_spec.specs.declared.Kind.the-variants.{Refused, Unread, TableDump, PeerTable, Rib, RibGeneric, Change, Message}
+use Rattle.page_spec.proofs.Kind as declared
+use Rattle.page_spec.specs.Sane.{Sane}
+use Rattle.page_laws.proofs.Widths.{sane16, Stamps, stamps16}
+use Rattle.write_spec.specs.Times.{microSize, micros, bgp4mp}
+use Rattle.write_spec.specs.Only.{asOctets}
+use Rattle.write_spec.specs.Givens.{sessionValues, stateValues, bgpValues, bgpGiven}
+use Rattle.write_spec.specs.declared.Time.{Time}
+use Rattle.write_spec.specs.declared.Time.the-variants.{Seconds, Micro}
+use Rattle.write_laws.proofs.Answers.{micros-long}
+use Rattle.write_laws.proofs.Laid.{both}
 use Rattle.write_bgp.specs.Opening.{openingValues, openingSize}
 
 -- ---- the kinds of types 16 and 17
 
-kind-is : (t : Time) (s : ℕ) → kind16 (microOf t) s ≡ kind (bgp4mp t) s
+kind-is : (t : Time) (s : ℕ) → kind16 (microSize t) s ≡ kind (bgp4mp t) s
 unfolding kind choose
 kind-is (Seconds x) s = refl
 kind-is (Micro x u) s = refl
@@ -37,7 +37,7 @@ pub type-fits : (t : Time) → large 2 (bgp4mp t) ≡ 0
 type-fits (Seconds x) = refl
 type-fits (Micro x u) = refl
 
-pub micro-small : (t : Time) → microOf t ≤ 4
+pub micro-small : (t : Time) → microSize t ≤ 4
 micro-small (Seconds x) = omega arith
 micro-small (Micro x u) = omega arith
 
@@ -45,12 +45,12 @@ micro-small (Micro x u) = omega arith
 pub record Found (t : Time) (s : ℕ) (k : Kind) : Type 0 where
   pub page : k ≡ kind (bgp4mp t) s
   pub sane : Sane k
-  pub stamps : Stamps (microOf t) k
+  pub stamps : Stamps (microSize t) k
 
-pub found : (t : Time) (s m : ℕ) (k : Kind) → m ≡ microOf t → k ≡ kind16 m s → Found t s k
+pub found : (t : Time) (s m : ℕ) (k : Kind) → m ≡ microSize t → k ≡ kind16 m s → Found t s k
 found t s m k e h =
-    let d : k ≡ kind16 (microOf t) s = h ∙ ap (λ (x : ℕ). kind16 x s) e in
-    record { page = d ∙ kind-is t s; sane = rw d (sane16 (microOf t) s (micro-small t)); stamps = rw d (stamps16 (microOf t) s) }
+    let d : k ≡ kind16 (microSize t) s = h ∙ ap (λ (x : ℕ). kind16 x s) e in
+    record { page = d ∙ kind-is t s; sane = rw d (sane16 (microSize t) s (micro-small t)); stamps = rw d (stamps16 (microSize t) s) }
 
 pub no-width : (k : Kind) → OneOf (0 ∷ 1 ∷ 2 ∷ 3 ∷ 4 ∷ 5 ∷ []) (tagOf declared.the-type k) → 0 ≡ asOctets k
 no-width (Refused n p) h = refl

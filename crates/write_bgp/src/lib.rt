@@ -3,39 +3,39 @@ ghost use mathlib.Core.Path.{_≡_};
 ghost use mathlib.Core.List.{List, [], _∷_};
 ghost use Prim.Native.Nat.{ℕ, _+_, _≤_};
 ghost use lib.ListN.{length};
-ghost use Rattle.form.specs.Fmt.{Fmt, join};
-ghost use Rattle.form.specs.Put.{Value, bytes, refusal, lay, fieldsRefusal};
-ghost use Rattle.form.specs.Shape.{noTable};
-ghost use Rattle.page.specs.Bgp4mp.{longestMessage, session, addresses, stateChange, message};
-ghost use Rattle.copy.specs.Over.{over};
-ghost use Rattle.page.specs.Layout.{kind};
-ghost use Rattle.writing.specs.Times.{bgp4mp};
-ghost use Rattle.writing.specs.Only.{onlySub, changes, messages, asOctets};
-ghost use Rattle.writing.specs.Givens.{sessionValues, stateValues, bgpValues, changeGiven, messageGiven};
-ghost use Rattle.writing.specs.Verdict.{Writes, capped};
+ghost use Rattle.form_spec.specs.Fmt.{Fmt, join};
+ghost use Rattle.form_spec.specs.Put.{Value, bytes, refusal, lay, fieldsRefusal};
+ghost use Rattle.form_spec.specs.Shape.{noTable};
+ghost use Rattle.page_spec.specs.Bgp4mp.{longestMessage, session, addresses, stateChange, message};
+ghost use Rattle.octets_spec.specs.Over.{over};
+ghost use Rattle.page_spec.specs.Layout.{kind};
+ghost use Rattle.write_spec.specs.Times.{bgp4mp};
+ghost use Rattle.write_spec.specs.Only.{onlySub, changes, messages, asOctets};
+ghost use Rattle.write_spec.specs.Givens.{sessionValues, stateValues, bgpValues, changeGiven, messageGiven};
+ghost use Rattle.write_spec.specs.Verdict.{Writes, capped};
 ghost use Rattle.write_bgp.specs.Opening.{openingValues, openingSize};
 use bgp::message_at;
-use copy::put_bytes;
-use flow::large;
 use kind::kind_16;
-use num::put_number;
-use page::Kind;
-use page::LONGEST_MESSAGE;
+use octets::large;
+use octets::put_bytes;
+use octets::put_number;
+use page_spec::Kind;
+use page_spec::LONGEST_MESSAGE;
+use record_spec::Header;
+use record_spec::Part;
+use record_spec::Session;
+use record_spec::Shown;
 use room_spec::Written;
-use shown::Header;
-use shown::Part;
-use shown::Session;
-use shown::Shown;
-use writing::Time;
-use writing::add;
-use writing::bgp_type;
-use writing::head_refusal;
-use writing::micro;
-use writing::put_head;
-use writing::put_micros;
-use writing::seconds;
-use writing::stamped_refusal;
-use writing::verdict;
+use write::add;
+use write::bgp_type;
+use write::head_refusal;
+use write::micro;
+use write::put_head;
+use write::put_micros;
+use write::seconds;
+use write::stamped_refusal;
+use write::verdict;
+use write_spec::Time;
 
 fn states_refusal(old: u64, new: u64) -> u8
     ensures { λ r. ⌜ r ≡ refusal stateChange (stateValues old new) ⌝ }
@@ -316,7 +316,7 @@ pub fn write_change(
 }
 
 // A BGP message of at most `longest` octets.
-fn write_up_to(
+fn write_message_with(
     longest: u64,
     time: Time,
     subtype: u64,
@@ -370,7 +370,7 @@ pub fn write_message(
 ) -> Written
     ensures { λ r. ⌜ Writes (onlySub messages longestMessage) noTable (messageGiven time subtype peer local interface family (now (theirs .entry)) (now (ours .entry)) (now (message .entry))) (now (out .entry)) r (now (out .exit)) ⌝ }
 {
-    write_up_to(
+    write_message_with(
         LONGEST_MESSAGE,
         time,
         subtype,

@@ -1,41 +1,41 @@
--- The table that is told, and RIB messages as the writers lay them. Assumes nothing.
+-- The table that is told, and RIB messages as the writers lay them.
 use mathlib.Core.Path.{_≡_, ap, _∙_}
 use mathlib.Core.List.{List, [], _∷_, _++_, append-assoc, append-nil}
 use Prim.Native.Nat.{ℕ, _+_, _≤_, _<_}
 use native.Mathlib.Omega.{arith}
 use lib.ListN.{length, length-append, length-replicate}
-use Rattle.form.specs.Octets.{toBe}
-use Rattle.form.specs.Fmt.{Fmt, join}
-use Rattle.form.specs.Body.{many}
-use Rattle.form.specs.Put.{Value, digits, bytes, Tail, items, Given, lay, tailed, refusal, itemsRefusal, bodyRefusal, message}
-use Rattle.form.specs.Shape.{entries, plan}
-use Rattle.form.proofs.Octets.{length-toBe}
-use Rattle.copy.specs.Over.{over}
-use Rattle.copy.proofs.Laws.{more}
-use Rattle.page.specs.Rib.{entryRest, entry}
-use Rattle.shown.specs.Table.{tableOf}
-use Rattle.shown.specs.declared.Table.{Table}
-use Rattle.shown.specs.declared.Table.the-variants.{Absent, Holds}
-use Rattle.writing.specs.Givens.{ribGiven, ribGenericGiven}
-use Rattle.writing.proofs.Laid.{none, number, octets}
-use Rattle.writing.proofs.Turns.{front-stops, front-passes}
+use Rattle.form_spec.specs.Octets.{toBe}
+use Rattle.form_spec.specs.Fmt.{Fmt, join}
+use Rattle.form_spec.specs.Body.{many}
+use Rattle.form_spec.specs.Put.{Value, digits, bytes, Tail, items, Given, lay, tailed, refusal, itemsRefusal, bodyRefusal, message}
+use Rattle.form_spec.specs.Shape.{entries, plan}
+use Rattle.form_laws.proofs.Octets.{length-toBe}
+use Rattle.octets_spec.specs.Over.{over}
+use Rattle.octets_laws.proofs.Over.{more}
+use Rattle.page_spec.specs.Rib.{entryRest, entry}
+use Rattle.record_spec.specs.Table.{stateOf}
+use Rattle.record_spec.specs.declared.Table.{Table}
+use Rattle.record_spec.specs.declared.Table.the-variants.{Absent, Holds}
+use Rattle.write_spec.specs.Givens.{ribGiven, ribGenericGiven}
+use Rattle.write_laws.proofs.Laid.{none, number, octets}
+use Rattle.write_laws.proofs.Turns.{front-stops, front-passes}
 
 -- ---- the table that is told
 
-pub no-table : (told : Table) (f g : Fmt) (vs : List Value) (t : Tail) → told ≡ Absent → 12 ≡ bodyRefusal (plan (tableOf told) (entries f g)) vs t
+pub no-table : (told : Table) (f g : Fmt) (vs : List Value) (t : Tail) → told ≡ Absent → 12 ≡ bodyRefusal (plan (stateOf told) (entries f g)) vs t
 unfolding plan bodyRefusal refusal
 no-table told f g vs t e = rw e
 
-held : (told : Table) (peers : ℕ) (f : Fmt) → told ≡ Holds peers → plan (tableOf told) (entries f entryRest) ≡ many f (entry peers)
+held : (told : Table) (peers : ℕ) (f : Fmt) → told ≡ Holds peers → plan (stateOf told) (entries f entryRest) ≡ many f (entry peers)
 unfolding plan entry
 held told peers f e = rw (e, length-replicate {A = ℕ} peers 0)
 
 -- n is the number for the fields before the count
 module _ (told : Table) (peers : ℕ) (f : Fmt) (vs : List Value) (t : Tail) (n : ℕ) (known : told ≡ Holds peers) (judged : n ≡ refusal f vs) where
-  pub held-stops : 0 < n → n ≡ bodyRefusal (plan (tableOf told) (entries f entryRest)) vs t
+  pub held-stops : 0 < n → n ≡ bodyRefusal (plan (stateOf told) (entries f entryRest)) vs t
   held-stops h = rw (held told peers f known) (front-stops f (entry peers) vs t n judged h)
 
-  pub held-passes : (r : ℕ) → n ≤ 0 → r ≡ itemsRefusal (entry peers) t → r ≡ bodyRefusal (plan (tableOf told) (entries f entryRest)) vs t
+  pub held-passes : (r : ℕ) → n ≤ 0 → r ≡ itemsRefusal (entry peers) t → r ≡ bodyRefusal (plan (stateOf told) (entries f entryRest)) vs t
   held-passes r h e = rw (held told peers f known) (front-passes f (entry peers) vs t n judged r h e)
 
 -- ---- the messages

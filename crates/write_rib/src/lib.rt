@@ -3,28 +3,28 @@ ghost use mathlib.Core.Path.{_≡_};
 ghost use mathlib.Core.List.{[], _∷_, _++_};
 ghost use Prim.Native.Nat.{ℕ, _+_, _≤_};
 ghost use lib.ListN.{length};
-ghost use Rattle.form.specs.Fmt.{end, join};
-ghost use Rattle.page.specs.Bgp4mp.{longestMessage};
-ghost use Rattle.form.specs.Put.{digits, bytes, items, refusal, lay, tailed, itemsRefusal, fieldsRefusal};
-ghost use Rattle.page.specs.Rib.{entry, prefix, genericHead};
-ghost use Rattle.shown.specs.Table.{tableOf};
-ghost use Rattle.copy.specs.Over.{over};
-ghost use Rattle.writing.specs.Only.{onlySub, ribs, genericRibs};
-ghost use Rattle.writing.specs.Givens.{ribGiven, ribGenericGiven};
-ghost use Rattle.writing.specs.Verdict.{Writes};
-use copy::put_bytes;
-use flow::large;
+ghost use Rattle.form_spec.specs.Fmt.{end, join};
+ghost use Rattle.page_spec.specs.Bgp4mp.{longestMessage};
+ghost use Rattle.form_spec.specs.Put.{digits, bytes, items, refusal, lay, tailed, itemsRefusal, fieldsRefusal};
+ghost use Rattle.page_spec.specs.Rib.{entry, prefix, genericHead};
+ghost use Rattle.record_spec.specs.Table.{stateOf};
+ghost use Rattle.octets_spec.specs.Over.{over};
+ghost use Rattle.write_spec.specs.Only.{onlySub, ribs, genericRibs};
+ghost use Rattle.write_spec.specs.Givens.{ribGiven, ribGenericGiven};
+ghost use Rattle.write_spec.specs.Verdict.{Writes};
 use kind::kind_13;
-use num::put_number;
-use page::Kind;
+use octets::large;
+use octets::put_bytes;
+use octets::put_number;
+use page_spec::Kind;
+use record_spec::Shown;
+use record_spec::Table;
 use rib::entries_at;
 use room_spec::Written;
-use shown::Shown;
-use shown::Table;
-use writing::add;
-use writing::head_refusal;
-use writing::put_head;
-use writing::verdict;
+use write::add;
+use write::head_refusal;
+use write::put_head;
+use write::verdict;
 
 // Entries are judged by the reader, as they stand.
 fn entries_refusal(entries: &[u8], count: u64, peers: u64) -> u8
@@ -71,7 +71,7 @@ fn rib_refusal(
     count: u64,
     entries: &[u8],
 ) -> u8
-    ensures { λ r. ⌜ ((longest : ℕ) → r ≡ fieldsRefusal (onlySub ribs longest) (tableOf told) (ribGiven timestamp subtype sequence bits (now (prefix .entry)) count (now (entries .entry)))) ⌝ }
+    ensures { λ r. ⌜ ((longest : ℕ) → r ≡ fieldsRefusal (onlySub ribs longest) (stateOf told) (ribGiven timestamp subtype sequence bits (now (prefix .entry)) count (now (entries .entry)))) ⌝ }
 {
     let n = head_refusal(timestamp, subtype);
     if 0 < n {
@@ -136,7 +136,7 @@ fn generic_rib_refusal(
     count: u64,
     entries: &[u8],
 ) -> u8
-    ensures { λ r. ⌜ ((longest : ℕ) → r ≡ fieldsRefusal (onlySub genericRibs longest) (tableOf told) (ribGenericGiven timestamp sequence family safi bits (now (prefix .entry)) count (now (entries .entry)))) ⌝ }
+    ensures { λ r. ⌜ ((longest : ℕ) → r ≡ fieldsRefusal (onlySub genericRibs longest) (stateOf told) (ribGenericGiven timestamp sequence family safi bits (now (prefix .entry)) count (now (entries .entry)))) ⌝ }
 {
     let n = head_refusal(timestamp, 6);
     if 0 < n {
@@ -177,7 +177,7 @@ pub fn write_rib(
     entries: &[u8],
     out: &mut [u8],
 ) -> Written
-    ensures { λ r. ⌜ Writes (onlySub ribs longestMessage) (tableOf told) (ribGiven timestamp subtype sequence bits (now (prefix .entry)) count (now (entries .entry))) (now (out .entry)) r (now (out .exit)) ⌝ }
+    ensures { λ r. ⌜ Writes (onlySub ribs longestMessage) (stateOf told) (ribGiven timestamp subtype sequence bits (now (prefix .entry)) count (now (entries .entry))) (now (out .entry)) r (now (out .exit)) ⌝ }
 {
     let n = rib_refusal(
         timestamp,
@@ -213,7 +213,7 @@ pub fn write_rib_generic(
     entries: &[u8],
     out: &mut [u8],
 ) -> Written
-    ensures { λ r. ⌜ Writes (onlySub genericRibs longestMessage) (tableOf told) (ribGenericGiven timestamp sequence family safi bits (now (prefix .entry)) count (now (entries .entry))) (now (out .entry)) r (now (out .exit)) ⌝ }
+    ensures { λ r. ⌜ Writes (onlySub genericRibs longestMessage) (stateOf told) (ribGenericGiven timestamp sequence family safi bits (now (prefix .entry)) count (now (entries .entry))) (now (out .entry)) r (now (out .exit)) ⌝ }
 {
     let n = generic_rib_refusal(
         timestamp,

@@ -1,15 +1,15 @@
--- The message as the writer lays it. Assumes nothing.
+-- The message as the writer lays it.
 use mathlib.Core.Path.{_≡_, ap, _∙_}
 use mathlib.Core.List.{List, [], _∷_, append-assoc, append-nil}
 use Prim.Native.Nat.{ℕ, _+_, _≤_}
 use native.Mathlib.Omega.{arith}
 use lib.ListN.{length, length-append}
-use Rattle.form.specs.Fmt.{join}
-use Rattle.form.specs.Put.{digits, bytes, Given, lay, message}
-use Rattle.form.proofs.Octets.{length-toBe}
-use Rattle.copy.specs.Over.{over}
-use Rattle.copy.proofs.Laws.{more}
-use Rattle.writing.specs.Givens.{tableDumpGiven}
+use Rattle.form_spec.specs.Fmt.{join}
+use Rattle.form_spec.specs.Put.{digits, bytes, Given, lay, message}
+use Rattle.form_laws.proofs.Octets.{length-toBe}
+use Rattle.octets_spec.specs.Over.{over}
+use Rattle.octets_laws.proofs.Over.{more}
+use Rattle.write_spec.specs.Givens.{tableDumpGiven}
 
 module _ (t y view sequence : ℕ) (prefix : List ℕ) (bits status originated : ℕ) (address : List ℕ) (peer : ℕ) (attributes : List ℕ) where
   abbrev given : Given

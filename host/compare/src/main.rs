@@ -1,5 +1,5 @@
 //! `compare [COUNT [SEED]]`: so many dumps, made from the seeds from SEED on. If a call ends the
-//! program, no seed is told: run it again with half of COUNT, and so on.
+//! program, no seed is printed: run it again with half of COUNT, and so on.
 
 use compare::running::compare_seeds;
 use std::env;

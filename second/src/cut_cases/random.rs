@@ -1,4 +1,4 @@
-//! Dumps, windows and lists left to chance, from fixed seeds. Times and AS
+//! Random dumps, windows and lists, from fixed seeds. Times and AS
 //! numbers come from few values, so that they often meet.
 
 use super::parts::{change, named_table, octets, old_route, rib, withdrawal, Member};

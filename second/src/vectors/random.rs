@@ -1,4 +1,4 @@
-//! Dumps left to chance, from fixed seeds.
+//! Random dumps, from fixed seeds.
 
 use super::rng::Rng;
 use super::shapes::{

@@ -1,14 +1,14 @@
 -- `accept::accept` meets its contract.
 use mathlib.Core.Path.{_≡_}
-use Rattle.page.specs.Layout.{kind}
-use Rattle.page.specs.declared.Kind.{Kind}
-use Rattle.reading.specs.One.{shownAs, wholeRecord}
-use Rattle.accept.specs.Sure.{Sure, microOf}
-use Rattle.accept.specs.declared.Accepted.{Accepted}
-use Rattle.accept.specs.declared.Accepted.the-variants.{Record}
+use Rattle.page_spec.specs.Layout.{kind}
+use Rattle.page_spec.specs.declared.Kind.{Kind}
+use Rattle.record_spec.specs.One.{shownAs, wholeRecord}
+use Rattle.accept_spec.specs.Sure.{Sure, microOctets}
+use Rattle.accept_spec.specs.declared.Accepted.{Accepted}
+use Rattle.accept_spec.specs.declared.Accepted.the-variants.{Record}
 use native.Mathlib.Omega.{arith}
 use borrow.Author.Tests.{leb-true}
-use Rattle.accept.proofs.Leaves.{by-kind, kind-12, kind-13, kind-session, kind-unread, kind-late, if-sure, unread-leaves}
+use Rattle.accept_laws.proofs.Leaves.{by-kind, kind-12, kind-13, kind-session, kind-unread, kind-late, if-sure, unread-leaves}
 use borrow.Author.Needs.{needs}
 use Rattle.accept.proofs.accept.Statement.{statement}
 use Rattle.accept.proofs.accept.Tie as tie
@@ -89,7 +89,7 @@ returns-5 c =
     let q = session-read (c .before) in
     let a = start q .args in
     let micro = c .before .before .micro-of .ensures .0 in
-    let sure = if-sure (a .m .now) (a .t) _ _ (c .before .session .ensures (a .t) (microOf (q .before .number .result)) (omega arith)) in
+    let sure = if-sure (a .m .now) (a .t) _ _ (c .before .session .ensures (a .t) (microOctets (q .before .number .result)) (omega arith)) in
     leaf q _ (c .record-if3 .result) (kind-session (q .before .number .result) _ (omega arith) (omega arith)) (rw (c .record-if3 .ensures) sure)
 
 returns-6 : tie.Need-returns-6

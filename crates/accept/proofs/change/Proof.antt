@@ -1,8 +1,8 @@
 -- `accept::change` meets its contract.
 use native.Mathlib.Omega.{arith}
-use Rattle.page.specs.Bgp4mp.{stateChange}
-use Rattle.accept.proofs.Runs.{never}
-use Rattle.accept.proofs.Fields.{change-runs}
+use Rattle.page_spec.specs.Bgp4mp.{stateChange}
+use Rattle.accept_laws.proofs.Runs.{never}
+use Rattle.accept_laws.proofs.Fields.{change-runs}
 use borrow.Author.Needs.{needs}
 use Rattle.accept.proofs.change.Statement.{statement}
 use Rattle.accept.proofs.change.Tie as tie

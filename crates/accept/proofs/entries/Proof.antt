@@ -4,11 +4,11 @@ use mathlib.Core.Path.{_≡_, sym, _∙_}
 use native.Mathlib.Omega.{arith}
 use lib.ListN.{length}
 use borrow.Author.Tests.{eqb-true}
-use Rattle.form.specs.Pass.{times}
-use Rattle.page.specs.Rib.{entry}
-use Rattle.accept.specs.Runs.{Through}
-use Rattle.accept.proofs.Runs.{never, no-items, one-item}
-use Rattle.accept.proofs.Fields.{entry-runs}
+use Rattle.form_spec.specs.Pass.{times}
+use Rattle.page_spec.specs.Rib.{entry}
+use Rattle.accept_laws.specs.Runs.{Through}
+use Rattle.accept_laws.proofs.Runs.{never, no-items, one-item}
+use Rattle.accept_laws.proofs.Fields.{entry-runs}
 use borrow.Author.Needs.{needs}
 use Rattle.accept.proofs.entries.Statement.{statement}
 use Rattle.accept.proofs.entries.Tie as tie

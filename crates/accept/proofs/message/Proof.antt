@@ -1,9 +1,9 @@
 -- `accept::message` meets its contract.
 use native.Mathlib.Omega.{arith}
 use borrow.Author.Tests.{leb-true}
-use Rattle.page.specs.Bgp4mp.{message}
-use Rattle.accept.proofs.Runs.{never}
-use Rattle.accept.proofs.Fields.{message-runs}
+use Rattle.page_spec.specs.Bgp4mp.{message}
+use Rattle.accept_laws.proofs.Runs.{never}
+use Rattle.accept_laws.proofs.Fields.{message-runs}
 use borrow.Author.Needs.{needs}
 use Rattle.accept.proofs.message.Statement.{statement}
 use Rattle.accept.proofs.message.Tie as tie

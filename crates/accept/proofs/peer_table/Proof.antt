@@ -1,6 +1,6 @@
 -- `accept::peer_table` meets its contract.
 use native.Mathlib.Omega.{arith}
-use Rattle.accept.proofs.Leaves.{table-sure}
+use Rattle.accept_laws.proofs.Leaves.{table-sure}
 use borrow.Author.Needs.{needs}
 use Rattle.accept.proofs.peer_table.Statement.{statement}
 use Rattle.accept.proofs.peer_table.Tie as tie

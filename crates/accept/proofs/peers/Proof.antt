@@ -1,12 +1,12 @@
--- `accept::peers` meets its contract. Assumes nothing.
+-- `accept::peers` meets its contract.
 use mathlib.Core.Path.{_≡_}
 use native.Mathlib.Omega.{arith}
 use borrow.Author.Tests.{eqb-true}
-use Rattle.form.specs.Pass.{times}
-use Rattle.page.specs.Peers.{peer}
-use Rattle.accept.specs.Runs.{Through}
-use Rattle.accept.proofs.Runs.{never, forward, no-items, one-item}
-use Rattle.accept.proofs.Fields.{peer-runs}
+use Rattle.form_spec.specs.Pass.{times}
+use Rattle.page_spec.specs.Peers.{peer}
+use Rattle.accept_laws.specs.Runs.{Through}
+use Rattle.accept_laws.proofs.Runs.{never, forward, no-items, one-item}
+use Rattle.accept_laws.proofs.Fields.{peer-runs}
 use borrow.Author.Needs.{needs}
 use Rattle.accept.proofs.peers.Statement.{statement}
 use Rattle.accept.proofs.peers.Tie as tie

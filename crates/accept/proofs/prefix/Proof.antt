@@ -1,7 +1,7 @@
 -- `accept::prefix` meets its contract.
 use native.Mathlib.Omega.{arith}
-use Rattle.accept.proofs.Runs.{never}
-use Rattle.accept.proofs.Fields.{prefix-runs}
+use Rattle.accept_laws.proofs.Runs.{never}
+use Rattle.accept_laws.proofs.Fields.{prefix-runs}
 use borrow.Author.Needs.{needs}
 use Rattle.accept.proofs.prefix.Statement.{statement}
 use Rattle.accept.proofs.prefix.Tie as tie

@@ -2,8 +2,8 @@
 use mathlib.Core.Path.{_≡_}
 use mathlib.Core.Logic.{_⊎_, inl, inr, ⊎-elim}
 use Prim.Native.Nat.{_≤_}
-use Rattle.accept.proofs.Runs.{never}
-use Rattle.accept.proofs.Leaves.{change-sure, message-sure, six-on}
+use Rattle.accept_laws.proofs.Runs.{never}
+use Rattle.accept_laws.proofs.Leaves.{change-sure, message-sure, six-on}
 use borrow.Author.Needs.{needs}
 use Rattle.accept.proofs.session.Statement.{statement}
 use Rattle.accept.proofs.session.Tie as tie

@@ -1,7 +1,7 @@
--- `accept::session_end` meets its contract. Assumes nothing.
+-- `accept::session_end` meets its contract.
 use mathlib.Core.Path.{refl}
 use native.Mathlib.Omega.{arith}
-use Rattle.accept.proofs.Fields.{not-none, family-session}
+use Rattle.accept_laws.proofs.Fields.{not-none, family-session}
 use borrow.Author.Needs.{needs}
 use Rattle.accept.proofs.session_end.Statement.{statement}
 use Rattle.accept.proofs.session_end.Tie as tie

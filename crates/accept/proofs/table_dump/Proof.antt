@@ -1,8 +1,8 @@
 -- `accept::table_dump` meets its contract.
 use mathlib.Core.Path.{refl, sym, _∙_}
 use native.Mathlib.Omega.{arith}
-use Rattle.accept.proofs.Runs.{never}
-use Rattle.accept.proofs.Fields.{route-runs}
+use Rattle.accept_laws.proofs.Runs.{never}
+use Rattle.accept_laws.proofs.Fields.{route-runs}
 use borrow.Author.Needs.{needs}
 use Rattle.accept.proofs.table_dump.Statement.{statement}
 use Rattle.accept.proofs.table_dump.Tie as tie

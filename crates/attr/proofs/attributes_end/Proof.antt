@@ -1,4 +1,4 @@
--- `attr::attributes_end` meets its contract. Assumes nothing.
+-- `attr::attributes_end` meets its contract.
 use mathlib.Core.Path.{refl}
 use Prim.Native.Nat.{_+_, _-_}
 use native.Mathlib.Omega.{arith}

@@ -1,7 +1,7 @@
--- `attr::octets_behind` meets its contract. Assumes nothing.
+-- `attr::octets_behind` meets its contract.
 use denote.Ref.{now}
 use borrow.Author.Tests.{eq-eqb, ne-eqb}
-use Rattle.page.specs.Tiles.{wide}
+use Rattle.page_spec.specs.Tiles.{wide}
 use Rattle.attr.proofs.Laws.{long-ends, short-ends}
 use borrow.Author.Needs.{needs}
 use Rattle.attr.proofs.octets_behind.Statement.{statement}

@@ -1,6 +1,6 @@
--- `bgp::address_size` meets its contract. Assumes nothing.
+-- `bgp::address_size` meets its contract.
 use borrow.Author.Tests.{ne-eqb}
-use Rattle.form.specs.Words.{choose}
+use Rattle.form_spec.specs.Words.{choose}
 use Rattle.bgp.specs.Size.{addressSize}
 use Rattle.bgp.proofs.address_size.Statement.{statement}
 use Rattle.bgp.proofs.address_size.Tie as tie

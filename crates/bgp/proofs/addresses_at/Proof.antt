@@ -1,6 +1,6 @@
--- `bgp::addresses_at` meets its contract. Assumes nothing.
-use Rattle.page.specs.Bgp4mp.{addresses}
-use Rattle.flow.proofs.Rules.{flow}
+-- `bgp::addresses_at` meets its contract.
+use Rattle.page_spec.specs.Bgp4mp.{addresses}
+use Rattle.octets_laws.proofs.Rules.{flow}
 use borrow.Author.Needs.{needs}
 use Rattle.bgp.proofs.addresses_at.Statement.{statement}
 use Rattle.bgp.proofs.addresses_at.Tie as tie

@@ -1,7 +1,7 @@
 -- `bgp::bgp_message` meets its contract: the BGP message from where the session ends; the names of its fields are none of the session's (`refl`).
 use mathlib.Core.Path.{refl, _∙_}
-use Rattle.shown.specs.Fields.{messageOf}
-use Rattle.shown.specs.declared.Shown.the-variants.{Refused}
+use Rattle.record_spec.specs.Fields.{messageOf}
+use Rattle.record_spec.specs.declared.Shown.the-variants.{Refused}
 use Rattle.bgp.proofs.Laws.{met-then}
 use borrow.Author.Needs.{needs}
 use Rattle.bgp.proofs.bgp_message.Statement.{statement}

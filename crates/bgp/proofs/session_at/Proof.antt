@@ -1,6 +1,6 @@
--- `bgp::session_at` meets its contract. Assumes nothing.
-use Rattle.page.specs.Bgp4mp.{session}
-use Rattle.flow.proofs.Rules.{flow}
+-- `bgp::session_at` meets its contract.
+use Rattle.page_spec.specs.Bgp4mp.{session}
+use Rattle.octets_laws.proofs.Rules.{flow}
 use Rattle.bgp.proofs.Laws.{sizes}
 use borrow.Author.Needs.{needs}
 use Rattle.bgp.proofs.session_at.Statement.{statement}

@@ -1,7 +1,7 @@
 -- `bgp::state_change` meets its contract: the states from where the session ends; their names are none of the session's (`refl`).
 use mathlib.Core.Path.{refl, _∙_}
-use Rattle.shown.specs.Fields.{changeOf}
-use Rattle.shown.specs.declared.Shown.the-variants.{Refused}
+use Rattle.record_spec.specs.Fields.{changeOf}
+use Rattle.record_spec.specs.declared.Shown.the-variants.{Refused}
 use Rattle.bgp.proofs.Laws.{met-then}
 use borrow.Author.Needs.{needs}
 use Rattle.bgp.proofs.state_change.Statement.{statement}

@@ -3,10 +3,10 @@ use mathlib.Core.Path.{_≡_, sym, ap, _∙_}
 use native.Mathlib.Omega.{arith}
 use denote.Ref.{now}
 use borrow.Author.Needs.{needs}
-use Rattle.form.specs.Octets.{Octets}
-use Rattle.form.proofs.Octets.{octets-of}
-use Rattle.walking.specs.Walked.{walked}
-use Rattle.walking.specs.declared.Walked.{Walked}
+use Rattle.form_spec.specs.Octets.{Octets}
+use Rattle.form_laws.proofs.Octets.{octets-of}
+use Rattle.walk_spec.specs.Walked.{walked}
+use Rattle.walk_spec.specs.declared.Walked.{Walked}
 use Rattle.cut_laws.proofs.Answers.{gives-window, gives-fault, gives-left, splits-of}
 use Rattle.cut.proofs.cut_with.Statement.{statement}
 use Rattle.cut.proofs.cut_with.Tie as tie

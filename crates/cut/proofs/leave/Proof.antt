@@ -4,13 +4,13 @@ use Prim.Native.Nat.{_+_, _-_}
 use native.Mathlib.Omega.{arith}
 use lib.ListN.{length}
 use denote.Ref.{now}
-use Rattle.form.specs.Octets.{Octets}
-use Rattle.form.proofs.Octets.{octets-of}
-use Rattle.reading.specs.Answer.{place}
-use Rattle.look.specs.Sort.{sortBy, isTable}
-use Rattle.look.specs.Field.{Told, shown, typeOf, subtypeOf, Good}
-use Rattle.look.proofs.There.{sorted}
-use Rattle.cut.specs.State.{tableOf}
+use Rattle.form_spec.specs.Octets.{Octets}
+use Rattle.form_laws.proofs.Octets.{octets-of}
+use Rattle.record_spec.specs.Answer.{place}
+use Rattle.look_spec.specs.Sort.{sortBy, isTable}
+use Rattle.look_spec.specs.Field.{Told, shown, typeOf, subtypeOf, Good}
+use Rattle.look_laws.proofs.There.{sorted}
+use Rattle.cut.specs.State.{tableTold}
 use Rattle.cut.specs.Stands.{Stands}
 use Rattle.cut.proofs.One.{Is, goes-on, fate-is}
 use Rattle.cut.proofs.Turn.{Turn, turn-starts, turn-stands, turn-last, turn-done, turn-room, turn-on}
@@ -19,10 +19,10 @@ use Rattle.cut.proofs.leave.Statement.{statement}
 use Rattle.cut.proofs.leave.Tie as tie
 
 abbrev Inv-loop : tie.InvT-loop
-Inv-loop d w mutes news₀ out₀ lays longest at₀ s₀ f₀ news out at s f = Turn longest (w .start) (w .end) mutes d lays news out₀ out at s f
+Inv-loop d w mutes newIndexes₀ out₀ lays longest at₀ s₀ f₀ newIndexes out at s f = Turn longest (w .start) (w .end) mutes d lays newIndexes out₀ out at s f
 
 abbrev μ-loop : tie.MeasureT-loop
-μ-loop d w mutes news₀ out₀ lays longest at₀ s₀ f₀ news out at s f = length d - at
+μ-loop d w mutes newIndexes₀ out₀ lays longest at₀ s₀ f₀ newIndexes out at s f = length d - at
 
 -- ---- a turn, and where it started
 
@@ -44,7 +44,7 @@ from-pass c = c .before .before .before
 
 -- what a reader is told there
 abbrev told : tie.In-loop Inv-loop μ-loop → Told
-told c = let l = turn c in record { longest = start l .args .longest; table = tableOf (l .loop .f) }
+told c = let l = turn c in record { longest = start l .args .longest; table = tableTold (l .loop .f) }
 
 octets : (c : tie.At-loop Inv-loop μ-loop) → Octets (now (start c .args .d))
 octets c = octets-of (now (start c .args .d)) (λ k. omega (arith, c .before .before .before .shared-slice-known .given k))
@@ -52,7 +52,7 @@ octets c = octets-of (now (start c .args .d)) (λ k. omega (arith, c .before .be
 -- a good record stands there
 stands : (c : tie.In-loop Inv-loop μ-loop) → let l = turn c in
     let a = start l .args in
-    Stands (a .longest) (now (a .mutes)) (l .loop .news) (now (a .d)) (l .loop .at) (l .loop .f)
+    Stands (a .longest) (now (a .mutes)) (l .loop .new-indexes) (now (a .d)) (l .loop .at) (l .loop .f)
 stands c = turn-stands (turn c .loop .inv) (octets (turn c)) (c .loop-test .taken)
 
 good : (c : tie.In-loop Inv-loop μ-loop) → let l = turn c in Good (told c) (now (start l .args .d)) (l .loop .at)
@@ -88,7 +88,7 @@ loop-holds : tie.Need-loop-holds Inv-loop μ-loop
 loop-holds c =
     let q = c .before .before .before in
     let a = q .args in
-    turn-starts (a .longest) (a .w .start) (a .w .end) (now (a .mutes)) (now (a .d)) (a .lays) (now (a .news)) (now (a .out)) (q .pre .0) (q .pre .1 .0)
+    turn-starts (a .longest) (a .w .start) (a .w .end) (now (a .mutes)) (now (a .d)) (a .lays) (now (a .new-indexes)) (now (a .out)) (q .pre .0) (q .pre .1 .0)
 
 type-of-requires : tie.Need-type-of-requires Inv-loop μ-loop
 type-of-requires c κs = (told c, good c)

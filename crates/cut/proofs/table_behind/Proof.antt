@@ -4,13 +4,13 @@ use mathlib.Core.Bool.{true}
 use Prim.Native.Nat.{_+_}
 use native.Mathlib.Omega.{arith}
 use denote.Ref.{now}
-use Rattle.form.specs.Octets.{Octets}
-use Rattle.form.proofs.Octets.{octets-of}
-use Rattle.shown.specs.declared.Shown.{Shown}
-use Rattle.look.specs.Field.{Told, shown, Good, Counted}
-use Rattle.look.specs.Sort.{sortOf, isTable}
-use Rattle.look.proofs.Sort.{table-sort}
-use Rattle.cut.specs.State.{tableOf}
+use Rattle.form_spec.specs.Octets.{Octets}
+use Rattle.form_laws.proofs.Octets.{octets-of}
+use Rattle.record_spec.specs.declared.Shown.{Shown}
+use Rattle.look_spec.specs.Field.{Told, shown, Good, Counted}
+use Rattle.look_spec.specs.Sort.{sortOf, isTable}
+use Rattle.look_laws.proofs.Sort.{table-sort}
+use Rattle.cut.specs.State.{tableTold}
 use Rattle.cut.proofs.One.{Peered, peered, table-stays}
 use Rattle.cut.proofs.Turn.{length-filled, none-lost}
 use Rattle.cut.proofs.table_behind.Statement.{statement}
@@ -28,7 +28,7 @@ counting c = c .before
 
 -- what a reader is told there, and the record that it shows
 abbrev told : tie.Start → Told
-told q = record { longest = q .args .longest; table = tableOf (q .args .f) }
+told q = record { longest = q .args .longest; table = tableTold (q .args .f) }
 
 abbrev here : tie.Start → Shown
 here q = shown (told q) (now (q .args .d)) (q .args .at)
@@ -57,8 +57,8 @@ add-from c = let k = counted c in omega (arith, k .inside)
 count-requires : tie.Need-count-requires
 count-requires c κs = counted c .inside
 
-fill-news-requires : tie.Need-fill-news-requires
-fill-news-requires c κs =
+fill-new-indexes-requires : tie.Need-fill-new-indexes-requires
+fill-new-indexes-requires c κs =
     let k = c .before in
     let p = peers k in
     (p .lie, (start (counting (k .before)) .pre .1 .1, p .few))
@@ -69,14 +69,14 @@ returns c =
     let q = start (counting (k .before)) in
     let a = q .args in
     let p = peers k in
-    let e = c .fill-news .ensures in
+    let e = c .fill-new-indexes .ensures in
     let l = q .pre .1 .1 in
     let few = p .few in
     let from = k .before .peer-count-at .result + 2 in
     let n = k .count .result in (
       sym (p .next),
-      record { tells = p .tells; ranked = rw (e .1) (p .ranked (now (a .news)) (omega arith)); none = λ z. none-lost (now (a .mutes)) (now (a .d)) from n _ (e .0) (p .many) z },
-      length-filled (now (a .mutes)) (now (a .d)) (now (a .news)) _ from n (e .1) (p .many) (omega arith) ∙ l,
+      record { tells = p .tells; ranked = rw (e .1) (p .ranked (now (a .new-indexes)) (omega arith)); none = λ z. none-lost (now (a .mutes)) (now (a .d)) from n _ (e .0) (p .many) z },
+      length-filled (now (a .mutes)) (now (a .d)) (now (a .new-indexes)) _ from n (e .1) (p .many) (omega arith) ∙ l,
     )
 
 returns-2 : tie.Need-returns-2
@@ -91,6 +91,6 @@ table-behind-spec =
     peer-count-at-requires
     add-from
     count-requires
-    fill-news-requires
+    fill-new-indexes-requires
     returns
     returns-2)

@@ -6,16 +6,16 @@ use Prim.Native.Nat.{ℕ, _<_}
 use native.Mathlib.Omega.{arith}
 use lib.Dec.{leb, ltb}
 use denote.Ref.{now}
-use Rattle.shown.specs.declared.Shown.{Shown}
-use Rattle.page.specs.Layout.{finer}
-use Rattle.look.specs.Sort.{unread, sortOf, sortBy}
-use Rattle.look.specs.Field.{typeOf, subtypeOf, timeOf, peerOf, shown, Is, Shows}
-use Rattle.look.proofs.Sort.{sort-peer, sort-first, sort-other, sort-unread, early, late-17, late-unread}
-use Rattle.look.proofs.There.{sort-known}
-use Rattle.cutting.specs.Cut.{mem}
-use Rattle.cut_fate.specs.Fate.{fateOf}
-use Rattle.cut_fate.specs.declared.Fate.{Fate}
-use Rattle.cut_fate.specs.declared.Fate.the-variants.{Stays, Goes}
+use Rattle.record_spec.specs.declared.Shown.{Shown}
+use Rattle.page_spec.specs.Layout.{finer}
+use Rattle.look_spec.specs.Sort.{unread, sortOf, sortBy}
+use Rattle.look_spec.specs.Field.{typeOf, subtypeOf, timeOf, peerOf, shown, Is, Shows}
+use Rattle.look_laws.proofs.Sort.{sort-peer, sort-first, sort-other, sort-unread, early, late-17, late-unread}
+use Rattle.look_laws.proofs.There.{sort-known}
+use Rattle.cut_spec.specs.Cut.{mem}
+use Rattle.cut_spec.specs.Fate.{fateOf}
+use Rattle.cut_spec.specs.declared.Fate.{Fate}
+use Rattle.cut_spec.specs.declared.Fate.the-variants.{Stays, Goes}
 use Rattle.cut_fate.proofs.Fated.{fate-unread, fate-heard, fate-table, fate-rib}
 use borrow.Author.Needs.{needs}
 use Rattle.cut_fate.proofs.fate_of.Statement.{statement}

@@ -1,4 +1,4 @@
--- `cut_fate::heard` meets its contract. Assumes nothing.
+-- `cut_fate::heard` meets its contract.
 use mathlib.Core.Path.{sym, _∙_}
 use borrow.Author.Needs.{needs}
 use Rattle.cut_fate.proofs.heard.Statement.{statement}

@@ -1,4 +1,4 @@
--- `cut_fate::inside` meets its contract. Assumes nothing.
+-- `cut_fate::inside` meets its contract.
 use borrow.Author.Tests.{lt-leb, le-leb}
 use Rattle.cut_fate.proofs.inside.Statement.{statement}
 use Rattle.cut_fate.proofs.inside.Tie as tie

@@ -5,10 +5,10 @@ use Prim.Native.Nat.{ℕ}
 use native.Mathlib.Omega.{arith}
 use lib.Dec.{leb, ltb}
 use denote.Ref.{now}
-use Rattle.page.specs.Layout.{finer}
-use Rattle.look.specs.Field.{Told, typeOf, timeOf, shown, Good, Counted}
-use Rattle.look.proofs.Sort.{is-rib, early}
-use Rattle.look.proofs.There.{sorted}
+use Rattle.page_spec.specs.Layout.{finer}
+use Rattle.look_spec.specs.Field.{Told, typeOf, timeOf, shown, Good, Counted}
+use Rattle.look_laws.proofs.Sort.{is-rib, early}
+use Rattle.look_laws.proofs.There.{sorted}
 use Rattle.cut_fate.proofs.Fated.{entries-there}
 use borrow.Author.Needs.{needs}
 use Rattle.cut_fate.proofs.rib_fate.Statement.{statement}

@@ -1,15 +1,18 @@
--- `cut_fate::table_fate` meets its contract. Assumes nothing.
+-- `cut_fate::table_fate` meets its contract.
 use native.Mathlib.Omega.{arith}
-use Rattle.look.specs.Field.{shown, Counted}
+use Rattle.look_spec.specs.Field.{shown, Counted}
 use Rattle.cut_fate.proofs.Fated.{peers-there}
 use Rattle.cut_fate.proofs.table_fate.Statement.{statement}
 use Rattle.cut_fate.proofs.table_fate.Tie as tie
 
+-- the state in which the function was called
+abbrev start : tie.After-peer-count-at → tie.Start
+start c = c .before .before .before
+
 -- where the peers are counted
-counted : (c : tie.After-peer-count-at) → let a = c .before .before .before .args in
-    let k = c .before .before .before .pre in
-    Counted (a .d .now) (a .at) (c .peer-count-at .result) (shown (k .0) (a .d .now) (a .at))
-counted c = let k = c .before .before .before .pre in c .peer-count-at .ensures (k .0) (k .1)
+counted : (c : tie.After-peer-count-at) → let q = start c in
+    Counted (q .args .d .now) (q .args .at) (c .peer-count-at .result) (shown (q .pre .0) (q .args .d .now) (q .args .at))
+counted c = let k = start c .pre in c .peer-count-at .ensures (k .0) (k .1)
 
 peer-count-at-requires : tie.Need-peer-count-at-requires
 peer-count-at-requires c κs = c .before .before .pre

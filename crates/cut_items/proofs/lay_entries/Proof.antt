@@ -1,4 +1,4 @@
--- `cut_items::lay_entries` meets its contract. Assumes nothing.
+-- `cut_items::lay_entries` meets its contract.
 use mathlib.Core.Path.{_≡_, refl, ap, _∙_}
 use Prim.Native.Nat.{ℕ, _+_, _-_, _≤_}
 use native.Mathlib.Omega.{arith}
@@ -6,22 +6,22 @@ use lib.ListN.{length, drop, getD}
 use lib.Dec.{leb}
 use borrow.Author.Needs.{needs}
 use borrow.Author.Tests.{lt-leb}
-use Rattle.form.proofs.Octets.{octets-of}
-use Rattle.form.specs.Fmt.{join}
-use Rattle.form.specs.Shape.{indexOf}
-use Rattle.page.specs.Rib.{entry}
-use Rattle.form.specs.Found.{items, item}
-use Rattle.moving.specs.Moved.{moved}
-use Rattle.form.proofs.Found.{Next}
+use Rattle.form_laws.proofs.Octets.{octets-of}
+use Rattle.form_spec.specs.Fmt.{join}
+use Rattle.form_spec.specs.Shape.{indexOf}
+use Rattle.page_spec.specs.Rib.{entry}
+use Rattle.form_spec.specs.Found.{items, item}
+use Rattle.cut_spec.specs.Moved.{moved}
+use Rattle.form_laws.proofs.Found.{Next}
 use Rattle.cut_items.proofs.Loop.{moves, Laying, ahead, lay-starts, lay-room, lay-turn, lay-done}
 use Rattle.cut_items.proofs.lay_entries.Statement.{statement}
 use Rattle.cut_items.proofs.lay_entries.Tie as tie
 
 abbrev Inv-loop : tie.InvT-loop
-Inv-loop m from count peers news out₀ put lays at₀ left₀ s₀ out at left s = Laying (entry peers) (λ (i : ℕ). moved news) lays m (items (entry peers) count (drop from m)) count out₀ put out at (count - left) left (s .kept) (s .end)
+Inv-loop m from count peers newIndexes out₀ put lays at₀ left₀ s₀ out at left s = Laying (entry peers) (λ (i : ℕ). moved newIndexes) lays m (items (entry peers) count (drop from m)) count out₀ put out at (count - left) left (s .kept) (s .end)
 
 abbrev μ-loop : tie.MeasureT-loop
-μ-loop m from count peers news out₀ put lays at₀ left₀ s₀ out at left s = left
+μ-loop m from count peers newIndexes out₀ put lays at₀ left₀ s₀ out at left s = left
 
 -- the call that a turn of the loop belongs to
 abbrev start : (c : tie.At-loop Inv-loop μ-loop) → tie.Start Inv-loop μ-loop
@@ -39,12 +39,12 @@ known c = c .before .before .before .before
 next : (c : tie.In-loop Inv-loop μ-loop) → let a = start (c .before) .args in
     let l = c .before .loop in
     Next (entry (a .peers)) (a .m .now) (l .at) (l .left) (l .inv .its) (l .inv .rest)
-next c = let a = start (c .before) .args in ahead (moves (a .peers) (a .news .now)) (c .before .loop .inv) (c .loop-test .taken)
+next c = let a = start (c .before) .args in ahead (moves (a .peers) (a .new-indexes .now)) (c .before .loop .inv) (c .loop-test .taken)
 
 loop-holds : tie.Need-loop-holds Inv-loop μ-loop
 loop-holds c =
     let a = c .before .before .args in
-    lay-starts (entry (a .peers)) (λ (i : ℕ). moved (a .news .now)) (a .lays) (a .m .now) (a .from) (a .count) (a .count - a .count) (a .count) (a .out .now) (a .put)
+    lay-starts (entry (a .peers)) (λ (i : ℕ). moved (a .new-indexes .now)) (a .lays) (a .m .now) (a .from) (a .count) (a .count - a .count) (a .count) (a .out .now) (a .put)
     (octets-of (a .m .now) (λ k. omega (arith, c .before .shared-slice-known .given k))) (c .before .before .pre .0) (c .before .before .pre .1 .0) (omega arith) refl
 
 entry-size-requires : tie.Need-entry-size-requires Inv-loop μ-loop
@@ -59,10 +59,10 @@ new-index-requires c κs = search needs
 -- the new index of the entry's peer
 new : (c : tie.After-new-index Inv-loop μ-loop) → let l = turn c .before in
     let a = start l .args in
-    c .new-index .result ≡ getD (a .news .now) (indexOf (item (entry (a .peers)) (drop (l .loop .at) (a .m .now)))) 0
+    c .new-index .result ≡ getD (a .new-indexes .now) (indexOf (item (entry (a .peers)) (drop (l .loop .at) (a .m .now)))) 0
 new c =
     let a = start (turn c .before) .args in
-    c .new-index .ensures ∙ ap (λ (i : ℕ). getD (a .news .now) i 0) (c .before .entry-index .ensures .1 _ (next (turn c) .lies))
+    c .new-index .ensures ∙ ap (λ (i : ℕ). getD (a .new-indexes .now) i 0) (c .before .entry-index .ensures .1 _ (next (turn c) .lies))
 
 -- the entry's octets
 sized : (c : tie.After-entry-size Inv-loop μ-loop) → let a = start (c .before .before) .args in
@@ -84,7 +84,7 @@ lay-entry-requires c κs =
       next b .lies,
       (
         (e .0, omega arith, omega arith, e .1, u, omega arith),
-        λ q h. lay-room (moves (a .peers) (a .news .now)) (l .inv) (b .loop-test .taken) (p .pre .1 .1) (e .0) (ap (leb 65535) (new k)) q (lt-leb 65535 _ h),
+        λ q h. lay-room (moves (a .peers) (a .new-indexes .now)) (l .inv) (b .loop-test .taken) (p .pre .1 .1) (e .0) (ap (leb 65535) (new k)) q (lt-leb 65535 _ h),
       ),
     )
 
@@ -106,7 +106,7 @@ loop-again c =
     let a = p .args in
     let x = c .before .before .lay-entry .ensures in
     let f = l .inv .few in
-    lay-turn (moves (a .peers) (a .news .now)) (l .inv) (b .loop-test .taken) (p .pre .1 .1) (sized (k .before .before) .0) (ap (leb 65535) (new k)) (x .0) (x .1) (rw (← (new k)) (x .2)) refl (omega arith) refl
+    lay-turn (moves (a .peers) (a .new-indexes .now)) (l .inv) (b .loop-test .taken) (p .pre .1 .1) (sized (k .before .before) .0) (ap (leb 65535) (new k)) (x .0) (x .1) (rw (← (new k)) (x .2)) refl (omega arith) refl
 
 same-length : tie.Need-same-length Inv-loop μ-loop
 same-length c = c .before .loop .inv .long
@@ -115,7 +115,7 @@ returns : tie.Need-returns Inv-loop μ-loop
 returns c =
     let l = c .before .loop in
     let a = start (c .before) .args in
-    lay-done (moves (a .peers) (a .news .now)) (l .inv) (c .loop-test .left)
+    lay-done (moves (a .peers) (a .new-indexes .now)) (l .inv) (c .loop-test .left)
 
 pub lay-entries-spec : {M : Type 1} → statement M
 lay-entries-spec =

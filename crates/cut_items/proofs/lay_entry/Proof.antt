@@ -1,13 +1,13 @@
--- `cut_items::lay_entry` meets its contract: the entry as it was, and its new index over the old. Assumes nothing.
+-- `cut_items::lay_entry` meets its contract: the entry as it was, and its new index over the old.
 use mathlib.Core.Path.{refl, sym, _∙_}
 use Prim.Native.Nat.{_+_, _≤_}
 use native.Mathlib.Omega.{arith}
 use lib.ListN.{length}
 use borrow.Author.Needs.{needs}
 use borrow.Author.Tests.{le-leb, lt-leb}
-use Rattle.form.specs.Octets.{Octets}
-use Rattle.form.proofs.Octets.{octets-of}
-use Rattle.moving.proofs.Laid.{laid-nothing, laid-so, laid-not}
+use Rattle.form_spec.specs.Octets.{Octets}
+use Rattle.form_laws.proofs.Octets.{octets-of}
+use Rattle.cut_laws.proofs.Laid.{laid-nothing, laid-so, laid-not}
 use Rattle.cut_items.proofs.Laws.{renumbered}
 use Rattle.cut_items.proofs.lay_entry.Statement.{statement}
 use Rattle.cut_items.proofs.lay_entry.Tie as tie

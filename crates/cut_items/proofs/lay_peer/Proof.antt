@@ -1,7 +1,7 @@
--- `cut_items::lay_peer` meets its contract. Assumes nothing.
+-- `cut_items::lay_peer` meets its contract.
 use mathlib.Core.Path.{refl, sym, _∙_}
 use native.Mathlib.Omega.{arith}
-use Rattle.moving.proofs.Laid.{laid-nothing, laid-so, laid-not}
+use Rattle.cut_laws.proofs.Laid.{laid-nothing, laid-so, laid-not}
 use borrow.Author.Needs.{needs}
 use Rattle.cut_items.proofs.lay_peer.Statement.{statement}
 use Rattle.cut_items.proofs.lay_peer.Tie as tie

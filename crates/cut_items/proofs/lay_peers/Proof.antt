@@ -1,29 +1,29 @@
--- `cut_items::lay_peers` meets its contract. Assumes nothing.
+-- `cut_items::lay_peers` meets its contract.
 use mathlib.Core.Path.{_≡_, refl, ap, _∙_}
 use Prim.Native.Nat.{_+_, _-_, _≤_}
 use native.Mathlib.Omega.{arith}
 use lib.ListN.{length, drop}
 use lib.Dec.{leb}
 use borrow.Author.Needs.{needs}
-use Rattle.form.specs.Octets.{Octets}
-use Rattle.form.proofs.Octets.{octets-of}
-use Rattle.page.specs.Peers.{peer}
-use Rattle.form.specs.Fmt.{join}
-use Rattle.form.specs.Found.{items, item}
-use Rattle.moving.specs.Moved.{sieved}
-use Rattle.moving.specs.Laid.{laid}
-use Rattle.form.proofs.Found.{Next}
-use Rattle.look.proofs.Items.{PeerAt, peer-at, small-peer}
+use Rattle.form_spec.specs.Octets.{Octets}
+use Rattle.form_laws.proofs.Octets.{octets-of}
+use Rattle.page_spec.specs.Peers.{peer}
+use Rattle.form_spec.specs.Fmt.{join}
+use Rattle.form_spec.specs.Found.{items, item}
+use Rattle.cut_spec.specs.Moved.{sieved}
+use Rattle.cut_spec.specs.Laid.{laid}
+use Rattle.form_laws.proofs.Found.{Next}
+use Rattle.look_laws.proofs.Items.{PeerAt, peer-at, small-peer}
 use Rattle.cut_items.proofs.Laws.{copied}
 use Rattle.cut_items.proofs.Loop.{keeps, Laying, ahead, lay-starts, lay-room, lay-turn, lay-done}
 use Rattle.cut_items.proofs.lay_peers.Statement.{statement}
 use Rattle.cut_items.proofs.lay_peers.Tie as tie
 
 abbrev Inv-loop : tie.InvT-loop
-Inv-loop m from count news out₀ put lays at₀ i₀ s₀ out at i s = Laying peer (sieved news) lays m (items peer count (drop from m)) count out₀ put out at i (count - i) (s .kept) (s .end)
+Inv-loop m from count newIndexes out₀ put lays at₀ i₀ s₀ out at i s = Laying peer (sieved newIndexes) lays m (items peer count (drop from m)) count out₀ put out at i (count - i) (s .kept) (s .end)
 
 abbrev μ-loop : tie.MeasureT-loop
-μ-loop m from count news out₀ put lays at₀ i₀ s₀ out at i s = count - i
+μ-loop m from count newIndexes out₀ put lays at₀ i₀ s₀ out at i s = count - i
 
 -- the call that a turn of the loop belongs to
 abbrev start : (c : tie.At-loop Inv-loop μ-loop) → tie.Start Inv-loop μ-loop
@@ -40,7 +40,7 @@ octets c = octets-of (c .before .args .m .now) (λ k. omega (arith, c .shared-sl
 next : (c : tie.In-loop Inv-loop μ-loop) → let a = start (c .before) .args in
     let l = c .before .loop in
     Next peer (a .m .now) (l .at) (a .count - l .i) (l .inv .its) (l .inv .rest)
-next c = let a = start (c .before) .args in ahead (keeps peer (a .news .now)) (c .before .loop .inv) (omega (arith, c .loop-test .taken))
+next c = let a = start (c .before) .args in ahead (keeps peer (a .new-indexes .now)) (c .before .loop .inv) (omega (arith, c .loop-test .taken))
 
 there : (c : tie.In-loop Inv-loop μ-loop) → let m = start (c .before) .args .m .now in
     let at = c .before .loop .at in
@@ -50,7 +50,7 @@ there c = peer-at _ _ (octets (c .before .before .before)) (next c .lies)
 loop-holds : tie.Need-loop-holds Inv-loop μ-loop
 loop-holds c =
     let a = c .before .before .args in
-    lay-starts peer (sieved (a .news .now)) (a .lays) (a .m .now) (a .from) (a .count) 0 (a .count - 0) (a .out .now) (a .put) (octets (c .before)) (c .before .before .pre .0) (c .before .before .pre .1 .0 .1) refl (omega arith)
+    lay-starts peer (sieved (a .new-indexes .now)) (a .lays) (a .m .now) (a .from) (a .count) 0 (a .count - 0) (a .out .now) (a .put) (octets (c .before)) (c .before .before .pre .0) (c .before .before .pre .1 .0 .1) refl (omega arith)
 
 peer-end-requires : tie.Need-peer-end-requires Inv-loop μ-loop
 peer-end-requires c κs = let e = there c in omega (arith, e .end, e .room)
@@ -87,7 +87,7 @@ lay-peer-requires c κs =
     let u = l .inv .used in
     let f = l .inv .few in (
       (omega arith, omega arith, u, omega arith),
-      λ q h. lay-room (keeps peer (a .news .now)) (l .inv) (omega (arith, b .loop-test .taken)) (p .pre .1 .1) (sized (k .before)) (ap (leb 65535) (k .new-index .ensures)) q h,
+      λ q h. lay-room (keeps peer (a .new-indexes .now)) (l .inv) (omega (arith, b .loop-test .taken)) (p .pre .1 .1) (sized (k .before)) (ap (leb 65535) (k .new-index .ensures)) q h,
     )
 
 add-i : tie.Need-add-i Inv-loop μ-loop
@@ -107,7 +107,7 @@ loop-again c =
     let e = ends (k .before) in
     let x = c .before .before .lay-peer .ensures in
     let y = copied (leb 65535 (k .new-index .result)) (a .m .now) (l .at) _ (octets (b .before .before .before)) (next b .lies) n in
-    lay-turn (keeps peer (a .news .now)) (l .inv) (omega (arith, b .loop-test .taken)) (p .pre .1 .1) n (ap (leb 65535) (k .new-index .ensures))
+    lay-turn (keeps peer (a .new-indexes .now)) (l .inv) (omega (arith, b .loop-test .taken)) (p .pre .1 .1) n (ap (leb 65535) (k .new-index .ensures))
     (x .0) (x .1) (x .2 ∙ ap (laid (a .lays) (l .out) (l .s .end)) y) (omega arith) refl (omega arith)
 
 same-length : tie.Need-same-length Inv-loop μ-loop
@@ -117,7 +117,7 @@ returns : tie.Need-returns Inv-loop μ-loop
 returns c =
     let l = c .before .loop in
     let a = start (c .before) .args in
-    lay-done (keeps peer (a .news .now)) (l .inv) (omega (arith, c .loop-test .left))
+    lay-done (keeps peer (a .new-indexes .now)) (l .inv) (omega (arith, c .loop-test .left))
 
 pub lay-peers-spec : {M : Type 1} → statement M
 lay-peers-spec =

@@ -1,9 +1,9 @@
--- `cut_lay::lay` meets its contract. Assumes nothing.
+-- `cut_lay::lay` meets its contract.
 use mathlib.Core.Path.{_≡_, refl, sym, _∙_}
 use Prim.Native.Nat.{_-_}
 use native.Mathlib.Omega.{arith}
 use denote.Ref.{now}
-use Rattle.moving.proofs.Laid.{laid-nothing, laid-so, laid-not}
+use Rattle.cut_laws.proofs.Laid.{laid-nothing, laid-so, laid-not}
 use borrow.Author.Needs.{needs}
 use Rattle.cut_lay.proofs.lay.Statement.{statement}
 use Rattle.cut_lay.proofs.lay.Tie as tie

@@ -1,9 +1,9 @@
--- `cut_lay::lay_front` meets its contract: the octets as they were, Length over the old one, the count behind. Assumes nothing.
+-- `cut_lay::lay_front` meets its contract: the octets as they were, Length over the old one, the count behind.
 use mathlib.Core.Path.{sym, _∙_}
 use Prim.Native.Nat.{_+_, _-_, _≤_}
 use native.Mathlib.Omega.{arith}
 use lib.ListN.{length}
-use Rattle.moving.proofs.Laid.{laid-so, laid-not}
+use Rattle.cut_laws.proofs.Laid.{laid-so, laid-not}
 use Rattle.cut_lay.proofs.Laws.{laid-front}
 use borrow.Author.Needs.{needs}
 use Rattle.cut_lay.proofs.lay_front.Statement.{statement}

@@ -1,16 +1,16 @@
--- `cut_lay::lay_rib` meets its contract: nothing is laid of a record that lost all its entries. Assumes nothing.
+-- `cut_lay::lay_rib` meets its contract: nothing is laid of a record that lost all its entries.
 use mathlib.Core.Path.{refl, sym, ap, _∙_}
 use mathlib.Core.List.{List}
 use Prim.Native.Nat.{ℕ, _+_, _-_}
 use native.Mathlib.Omega.{arith}
 use lib.ListN.{drop}
-use Rattle.form.specs.Body.{joins}
-use Rattle.page.specs.Rib.{entry}
-use Rattle.form.specs.Found.{items}
-use Rattle.moving.specs.Moved.{moved}
-use Rattle.moving.specs.One.{itemsLeft}
-use Rattle.moving.specs.Laid.{laid}
-use Rattle.moving.proofs.Laid.{laid-nothing}
+use Rattle.form_spec.specs.Body.{joins}
+use Rattle.page_spec.specs.Rib.{entry}
+use Rattle.form_spec.specs.Found.{items}
+use Rattle.cut_spec.specs.Moved.{moved}
+use Rattle.cut_spec.specs.One.{itemsLeft}
+use Rattle.cut_spec.specs.Laid.{laid}
+use Rattle.cut_laws.proofs.Laid.{laid-nothing}
 use Rattle.cut_lay.proofs.Laws.{items-room, front-room, laid-items, some-left, rib-stays, rib-goes}
 use borrow.Author.Needs.{needs}
 use Rattle.cut_lay.proofs.lay_rib.Statement.{statement}
@@ -18,7 +18,7 @@ use Rattle.cut_lay.proofs.lay_rib.Tie as tie
 
 -- the entries that stay, and the record with them
 abbrev its : (c : tie.Start) → List (List (List ℕ))
-its c = let a = c .args in moved (a .news .now) (items (entry (a .peers)) (a .count) (drop (a .at + a .off) (a .d .now)))
+its c = let a = c .args in moved (a .new-indexes .now) (items (entry (a .peers)) (a .count) (drop (a .at + a .off) (a .d .now)))
 
 abbrev all : (c : tie.Start) → List ℕ
 all c = let a = c .args in itemsLeft (a .d .now) (a .at) (a .off - 14) (its c)

@@ -1,12 +1,12 @@
--- `cut_lay::lay_table` meets its contract. Assumes nothing.
+-- `cut_lay::lay_table` meets its contract.
 use mathlib.Core.Path.{refl}
 use mathlib.Core.List.{List}
 use Prim.Native.Nat.{ℕ, _+_}
 use native.Mathlib.Omega.{arith}
 use lib.ListN.{drop}
-use Rattle.page.specs.Peers.{peer}
-use Rattle.form.specs.Found.{items}
-use Rattle.moving.specs.Moved.{sieved}
+use Rattle.page_spec.specs.Peers.{peer}
+use Rattle.form_spec.specs.Found.{items}
+use Rattle.cut_spec.specs.Moved.{sieved}
 use Rattle.cut_lay.proofs.Laws.{items-room, front-room, laid-items}
 use borrow.Author.Needs.{needs}
 use Rattle.cut_lay.proofs.lay_table.Statement.{statement}
@@ -14,7 +14,7 @@ use Rattle.cut_lay.proofs.lay_table.Tie as tie
 
 -- the peers that stay
 abbrev its : (c : tie.Start) → List (List (List ℕ))
-its c = let a = c .args in sieved (a .news .now) 0 (items peer (a .count) (drop (a .at + a .off) (a .d .now)))
+its c = let a = c .args in sieved (a .new-indexes .now) 0 (items peer (a .count) (drop (a .at + a .off) (a .d .now)))
 
 -- the call, where the peers are laid
 abbrev start : (c : tie.After-lay-peers) → tie.Start

@@ -1,14 +1,14 @@
--- `cut_lay::pass` meets its contract. Assumes nothing.
+-- `cut_lay::pass` meets its contract.
 use mathlib.Core.Path.{_≡_, refl}
 use mathlib.Core.List.{List}
 use Prim.Native.Nat.{ℕ, _+_, _-_, _≤_}
 use native.Mathlib.Omega.{arith}
 use lib.ListN.{length}
 use denote.Ref.{now}
-use Rattle.moving.specs.Laid.{laid, Room, between}
-use Rattle.moving.proofs.Laid.{length-between, room-behind, passed-gone, passed-new}
-use Rattle.cut_lay.specs.Left.{octetsOf, Sound}
-use Rattle.cut_fate.specs.declared.Fate.{Fate}
+use Rattle.cut_spec.specs.Laid.{laid, Room, between}
+use Rattle.cut_laws.proofs.Laid.{length-between, room-behind, passed-gone, passed-new}
+use Rattle.cut_spec.specs.Left.{octetsOf, Sound}
+use Rattle.cut_spec.specs.declared.Fate.{Fate}
 use borrow.Author.Needs.{needs}
 use Rattle.cut_lay.proofs.pass.Statement.{statement}
 use Rattle.cut_lay.proofs.pass.Tie as tie
@@ -32,7 +32,7 @@ sound : (c : tie.After-slice-known) (l : Fate) → c .before .before .args .x �
 sound c l e = rw e at (c .before .before .pre .1 .0)
 
 room : (c : tie.After-slice-known) (l : Fate) → c .before .before .args .x ≡ l → let a = c .before .before .args in
-    Room (a .lays) (a .out .now) (a .s .put) (a .at - a .s .run + length (octetsOf (a .news .now) (a .d .now) (a .at) (a .next) (a .peers) l))
+    Room (a .lays) (a .out .now) (a .s .put) (a .at - a .s .run + length (octetsOf (a .new-indexes .now) (a .d .now) (a .at) (a .next) (a .peers) l))
 room c l e = rw e at (c .before .before .pre .1 .1)
 
 -- the run before the record goes into out
@@ -43,7 +43,7 @@ run-fits c l e = let p = c .before .before .pre .0 in ((p .1, omega (arith, p), 
 -- and what is left of the record behind the run, which ends at `here`
 left-fits : (c : tie.After-slice-known) (l : Fate) → c .before .before .args .x ≡ l → (here : ℕ) (out : List ℕ) → let a = c .before .before .args in
     here ≡ a .s .put + (a .at - a .s .run) → out ≡ laid (a .lays) (a .out .now) (a .s .put) (between (a .d .now) (a .s .run) (a .at))
-    → Sound (a .d .now) (a .at) (a .peers) l × ((here ≤ a .at) × Room (a .lays) out here (length (octetsOf (a .news .now) (a .d .now) (a .at) (a .next) (a .peers) l)))
+    → Sound (a .d .now) (a .at) (a .peers) l × ((here ≤ a .at) × Room (a .lays) out here (length (octetsOf (a .new-indexes .now) (a .d .now) (a .at) (a .next) (a .peers) l)))
 left-fits c l e here out h o =
     let a = c .before .before .args in
     let p = c .before .before .pre .0 in

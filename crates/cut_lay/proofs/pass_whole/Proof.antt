@@ -1,7 +1,7 @@
--- `cut_lay::pass_whole` meets its contract. Assumes nothing.
+-- `cut_lay::pass_whole` meets its contract.
 use mathlib.Core.Path.{refl}
 use native.Mathlib.Omega.{arith}
-use Rattle.moving.proofs.Laid.{passed-later, passed-laid}
+use Rattle.cut_laws.proofs.Laid.{passed-later, passed-laid}
 use borrow.Author.Needs.{needs}
 use Rattle.cut_lay.proofs.pass_whole.Statement.{statement}
 use Rattle.cut_lay.proofs.pass_whole.Tie as tie

@@ -1,4 +1,4 @@
--- `cut_lay::remains` meets its contract. Assumes nothing.
+-- `cut_lay::remains` meets its contract.
 use borrow.Author.Tests.{eq-eqb, ne-eqb}
 use Rattle.cut_lay.proofs.remains.Statement.{statement}
 use Rattle.cut_lay.proofs.remains.Tie as tie

@@ -1,4 +1,4 @@
--- `cuts::main` ends: it goes over the arguments once. Assumes nothing.
+-- `cuts::main` ends: it goes over the arguments once.
 use Prim.Native.Nat.{ℕ, _-_, _<_, _^_}
 use borrow.Author.Needs.{needs}
 use Rattle.cuts.proofs.main.Statement.{statement}

@@ -1,4 +1,4 @@
--- `cuts::octets` is safe and ends. Assumes nothing.
+-- `cuts::octets` is safe and ends.
 use Prim.Native.Nat.{_-_, _≤_}
 use borrow.Author.Needs.{needs}
 use Rattle.cuts.proofs.octets.Statement.{statement}

@@ -1,4 +1,4 @@
--- `cuts::rest` is safe and ends. Assumes nothing.
+-- `cuts::rest` is safe and ends.
 use Prim.Native.Nat.{_-_, _≤_}
 use lib.ListN.{length}
 use mathlib.Core.Logic.{_⊎_}

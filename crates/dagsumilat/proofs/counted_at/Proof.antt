@@ -1,7 +1,7 @@
 -- `dagsumilat::counted_at` meets its contract.
 use mathlib.Core.Path.{sym, _∙_}
-use Rattle.look.proofs.Sort.{sort-first, sort-other}
-use Rattle.look.proofs.There.{sorted}
+use Rattle.look_laws.proofs.Sort.{sort-first, sort-other}
+use Rattle.look_laws.proofs.There.{sorted}
 use borrow.Author.Needs.{needs}
 use Rattle.dagsumilat.proofs.counted_at.Statement.{statement}
 use Rattle.dagsumilat.proofs.counted_at.Tie as tie

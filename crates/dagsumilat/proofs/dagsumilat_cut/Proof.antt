@@ -1,10 +1,10 @@
 -- `dagsumilat::dagsumilat_cut` meets its contract.
 use mathlib.Core.Path.{_≡_, sym, ap, _∙_}
 use denote.Ref.{now}
-use Rattle.page.specs.Bgp4mp.{longestMessage}
+use Rattle.page_spec.specs.Bgp4mp.{longestMessage}
 use Rattle.room_spec.specs.declared.Written.{Written}
-use Rattle.cut_laws.specs.Answer.{cutAnswer}
-use Rattle.dagsumilat.specs.Answers.{cutted}
+use Rattle.cut_spec.specs.Answer.{cutAnswer}
+use Rattle.dagsumilat_spec.specs.Answers.{cutWords}
 use borrow.Author.Needs.{needs}
 use Rattle.dagsumilat.proofs.dagsumilat_cut.Statement.{statement}
 use Rattle.dagsumilat.proofs.dagsumilat_cut.Tie as tie
@@ -17,9 +17,9 @@ abbrev start : tie.After-cut → tie.Start
 start c = c .before .before .before .before .before
 
 -- the words that tell what the cut answered are the promised ones
-told : (c : tie.After-slice-known2) (y : Written) → done c .cut .result ≡ y → let a = start (done c) .args in
-    cutted (now (a .answer)) y ≡ cutted (now (a .answer)) (cutAnswer longestMessage (a .from) (a .to) (now (a .mutes)) (now (a .dump)) (now (a .out)))
-told c y e = let k = done c in ap (cutted (now (start k .args .answer))) (sym e ∙ k .cut .ensures .0)
+answered : (c : tie.After-slice-known2) (y : Written) → done c .cut .result ≡ y → let a = start (done c) .args in
+    cutWords (now (a .answer)) y ≡ cutWords (now (a .answer)) (cutAnswer longestMessage (a .from) (a .to) (now (a .mutes)) (now (a .dump)) (now (a .out)))
+answered c y e = let k = done c in ap (cutWords (now (start k .args .answer))) (sym e ∙ k .cut .ensures .0)
 
 cut-requires : tie.Need-cut-requires
 cut-requires c κs = search needs
@@ -55,13 +55,13 @@ same-length : tie.Need-same-length
 same-length c = search needs
 
 returns : tie.Need-returns
-returns c = let q = c .before .before .before in (told q _ (c .before .n .given .1), done q .cut .ensures .1)
+returns c = let q = c .before .before .before in (answered q _ (c .before .n .given .1), done q .cut .ensures .1)
 
 same-length-2 : tie.Need-same-length-2
 same-length-2 c = search needs
 
 returns-2 : tie.Need-returns-2
-returns-2 c = let q = c .before .before .before in (told q _ (c .before .n2 .given .1), done q .cut .ensures .1)
+returns-2 c = let q = c .before .before .before in (answered q _ (c .before .n2 .given .1), done q .cut .ensures .1)
 
 pub dagsumilat-cut-spec : {M : Type 1} → statement M
 dagsumilat-cut-spec =

@@ -1,12 +1,12 @@
 -- `dagsumilat::dagsumilat_entry` meets its contract.
 use mathlib.Core.Path.{_≡_, sym, ap, _∙_}
 use denote.Ref.{now}
-use Rattle.form.specs.Pass.{pass}
-use Rattle.shown.specs.Fields as show
-use Rattle.shown.specs.declared.Entry.{Entry}
-use Rattle.shown.specs.declared.Entry.the-variants as entries
-use Rattle.dagsumilat.specs.Unjudged.{entryFields}
-use Rattle.dagsumilat.specs.Answers.{entry}
+use Rattle.form_spec.specs.Pass.{pass}
+use Rattle.record_spec.specs.Fields as show
+use Rattle.record_spec.specs.declared.Entry.{Entry}
+use Rattle.record_spec.specs.declared.Entry.the-variants as entries
+use Rattle.dagsumilat_spec.specs.Unjudged.{entryFields}
+use Rattle.dagsumilat_spec.specs.Answers.{entryWords}
 use borrow.Author.Needs.{needs}
 use Rattle.dagsumilat.proofs.dagsumilat_entry.Statement.{statement}
 use Rattle.dagsumilat.proofs.dagsumilat_entry.Tie as tie
@@ -16,9 +16,9 @@ abbrev start : tie.After-entry-fields → tie.Start
 start c = c .before .before
 
 -- the words that tell what was read are the promised ones
-told : (c : tie.After-entry-fields) (y : Entry) → c .entry-fields .result ≡ y → let a = start c .args in
-    entry (now (a .answer)) y ≡ entry (now (a .answer)) (pass show.entry entries.Bad entryFields (now (a .dump)) (a .at))
-told c y e = ap (entry (now (start c .args .answer))) (sym e ∙ c .entry-fields .ensures)
+answered : (c : tie.After-entry-fields) (y : Entry) → c .entry-fields .result ≡ y → let a = start c .args in
+    entryWords (now (a .answer)) y ≡ entryWords (now (a .answer)) (pass show.entry entries.Bad entryFields (now (a .dump)) (a .at))
+answered c y e = ap (entryWords (now (start c .args .answer))) (sym e ∙ c .entry-fields .ensures)
 
 entry-fields-requires : tie.Need-entry-fields-requires
 entry-fields-requires c κs = search needs
@@ -69,10 +69,10 @@ element-write-answer-12 : tie.Need-element-write-answer-12
 element-write-answer-12 c = search needs
 
 returns : tie.Need-returns
-returns c = told (c .before .before .before) _ (c .before .index .given .1)
+returns c = answered (c .before .before .before) _ (c .before .index .given .1)
 
 returns-2 : tie.Need-returns-2
-returns-2 c = told (c .before .before .before) _ (c .before .n .given .1)
+returns-2 c = answered (c .before .before .before) _ (c .before .n .given .1)
 
 pub dagsumilat-entry-spec : {M : Type 1} → statement M
 dagsumilat-entry-spec =

@@ -1,12 +1,12 @@
 -- `dagsumilat::dagsumilat_peer` meets its contract.
 use mathlib.Core.Path.{_≡_, sym, ap, _∙_}
 use denote.Ref.{now}
-use Rattle.form.specs.Pass.{pass}
-use Rattle.shown.specs.Fields as show
-use Rattle.shown.specs.declared.Peer.{Peer}
-use Rattle.shown.specs.declared.Peer.the-variants as peers
-use Rattle.page.specs.Peers as page
-use Rattle.dagsumilat.specs.Answers.{peer}
+use Rattle.form_spec.specs.Pass.{pass}
+use Rattle.record_spec.specs.Fields as show
+use Rattle.record_spec.specs.declared.Peer.{Peer}
+use Rattle.record_spec.specs.declared.Peer.the-variants as peers
+use Rattle.page_spec.specs.Peers as page
+use Rattle.dagsumilat_spec.specs.Answers.{peerWords}
 use borrow.Author.Needs.{needs}
 use Rattle.dagsumilat.proofs.dagsumilat_peer.Statement.{statement}
 use Rattle.dagsumilat.proofs.dagsumilat_peer.Tie as tie
@@ -16,9 +16,9 @@ abbrev start : tie.After-peer-at → tie.Start
 start c = c .before .before
 
 -- the words that tell what was read are the promised ones
-told : (c : tie.After-peer-at) (y : Peer) → c .peer-at .result ≡ y → let a = start c .args in
-    peer (now (a .answer)) y ≡ peer (now (a .answer)) (pass show.peer peers.Bad page.peer (now (a .dump)) (a .at))
-told c y e = ap (peer (now (start c .args .answer))) (sym e ∙ c .peer-at .ensures)
+answered : (c : tie.After-peer-at) (y : Peer) → c .peer-at .result ≡ y → let a = start c .args in
+    peerWords (now (a .answer)) y ≡ peerWords (now (a .answer)) (pass show.peer peers.Bad page.peer (now (a .dump)) (a .at))
+answered c y e = ap (peerWords (now (start c .args .answer))) (sym e ∙ c .peer-at .ensures)
 
 peer-at-requires : tie.Need-peer-at-requires
 peer-at-requires c κs = search needs
@@ -75,10 +75,10 @@ element-write-answer-14 : tie.Need-element-write-answer-14
 element-write-answer-14 c = search needs
 
 returns : tie.Need-returns
-returns c = told (c .before .before .before) _ (c .before .kind .given .1)
+returns c = answered (c .before .before .before) _ (c .before .kind .given .1)
 
 returns-2 : tie.Need-returns-2
-returns-2 c = told (c .before .before .before) _ (c .before .n .given .1)
+returns-2 c = answered (c .before .before .before) _ (c .before .n .given .1)
 
 pub dagsumilat-peer-spec : {M : Type 1} → statement M
 dagsumilat-peer-spec =

@@ -1,12 +1,12 @@
--- `dagsumilat::dagsumilat_record` meets its contract. Assumes nothing.
+-- `dagsumilat::dagsumilat_record` meets its contract.
 use mathlib.Core.Path.{ap}
-use Rattle.dagsumilat.specs.Answers.{told}
+use Rattle.dagsumilat_spec.specs.Answers.{recordWords}
 use borrow.Author.Needs.{needs}
 use Rattle.dagsumilat.proofs.dagsumilat_record.Statement.{statement}
 use Rattle.dagsumilat.proofs.dagsumilat_record.Tie as tie
 
-told-at-requires : tie.Need-told-at-requires
-told-at-requires c κs = search needs
+answer-at-requires : tie.Need-answer-at-requires
+answer-at-requires c κs = search needs
 
 cast-answer : tie.Need-cast-answer
 cast-answer c = search needs
@@ -51,13 +51,13 @@ element-write-answer-10 : tie.Need-element-write-answer-10
 element-write-answer-10 c = search needs
 
 returns : tie.Need-returns
-returns c = ap (told (c .before .before .args .answer .now)) (c .told-at .ensures)
+returns c = ap (recordWords (c .before .before .args .answer .now)) (c .answer-at .ensures)
 
 pub dagsumilat-record-spec : {M : Type 1} → statement M
 dagsumilat-record-spec =
     tie.close
     (tie.spec
-    told-at-requires
+    answer-at-requires
     cast-answer
     element-write-answer
     element-write-answer-2

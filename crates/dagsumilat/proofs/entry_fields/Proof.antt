@@ -1,6 +1,6 @@
--- `dagsumilat::entry_fields` meets its contract. Assumes nothing.
-use Rattle.flow.proofs.Rules.{flow}
-use Rattle.dagsumilat.specs.Unjudged.{entryFields}
+-- `dagsumilat::entry_fields` meets its contract.
+use Rattle.octets_laws.proofs.Rules.{flow}
+use Rattle.dagsumilat_spec.specs.Unjudged.{entryFields}
 use borrow.Author.Needs.{needs}
 use Rattle.dagsumilat.proofs.entry_fields.Statement.{statement}
 use Rattle.dagsumilat.proofs.entry_fields.Tie as tie

@@ -1,6 +1,6 @@
--- `dagsumilat::table_of` meets its contract. Assumes nothing.
+-- `dagsumilat::table_of` meets its contract.
 use borrow.Author.Tests.{ne-eqb}
-use Rattle.form.specs.Words.{choose}
+use Rattle.form_spec.specs.Words.{choose}
 use Rattle.dagsumilat.proofs.table_of.Statement.{statement}
 use Rattle.dagsumilat.proofs.table_of.Tie as tie
 

@@ -3,9 +3,9 @@ use mathlib.Core.Path.{sym, _∙_}
 use Prim.Native.Nat.{_-_, _≤_, _<_}
 use native.Mathlib.Omega.{arith}
 use lib.ListN.{length}
-use Rattle.form.specs.Octets.{Octets}
-use Rattle.form.proofs.Octets.{octets-of}
-use Rattle.walking.proofs.Goes.{step-on}
+use Rattle.form_spec.specs.Octets.{Octets}
+use Rattle.form_laws.proofs.Octets.{octets-of}
+use Rattle.walk_laws.proofs.Goes.{step-on}
 use borrow.Author.Needs.{needs}
 use Rattle.listing.proofs.list.Statement.{statement}
 use Rattle.listing.proofs.list.Tie as tie

@@ -1,6 +1,6 @@
--- `look::as_width` meets its contract. Assumes nothing.
+-- `look::as_width` meets its contract.
 use native.Mathlib.Omega.{arith}
-use Rattle.look.proofs.Width.{width-seven, width-four, width-other}
+use Rattle.look_laws.proofs.Width.{width-seven, width-four, width-other}
 use Rattle.look.proofs.as_width.Statement.{statement}
 use Rattle.look.proofs.as_width.Tie as tie
 

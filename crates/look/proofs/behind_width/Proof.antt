@@ -1,4 +1,4 @@
--- `look::behind_width` meets its contract. Assumes nothing.
+-- `look::behind_width` meets its contract.
 use native.Mathlib.Omega.{arith}
 use borrow.Author.Tests.{eq-eqb, ne-eqb}
 use Rattle.look.proofs.behind_width.Statement.{statement}

@@ -1,9 +1,9 @@
--- `look::entry_count_at` meets its contract. Assumes nothing.
+-- `look::entry_count_at` meets its contract.
 use mathlib.Core.Path.{_≡_, sym, _∙_}
 use Prim.Native.Nat.{_+_}
-use Rattle.num.specs.Be.{numAt}
-use Rattle.look.proofs.Sort.{is-rib}
-use Rattle.look.proofs.There.{type-shown, subtype-shown, sorted, generic-entries-shown, entries-shown}
+use Rattle.octets_spec.specs.Be.{numAt}
+use Rattle.look_laws.proofs.Sort.{is-rib}
+use Rattle.look_laws.proofs.There.{type-shown, subtype-shown, sorted, generic-entries-shown, entries-shown}
 use borrow.Author.Needs.{needs}
 use Rattle.look.proofs.entry_count_at.Statement.{statement}
 use Rattle.look.proofs.entry_count_at.Tie as tie

@@ -1,6 +1,6 @@
--- `look::first_as` meets its contract. Assumes nothing.
+-- `look::first_as` meets its contract.
 use native.Mathlib.Omega.{arith}
-use Rattle.look.proofs.Width.{first-number}
+use Rattle.look_laws.proofs.Width.{first-number}
 use borrow.Author.Needs.{needs}
 use Rattle.look.proofs.first_as.Statement.{statement}
 use Rattle.look.proofs.first_as.Tie as tie

@@ -1,5 +1,5 @@
--- `look::is_peer_table` meets its contract. Assumes nothing.
-use Rattle.look.proofs.Sort.{table-first, no-table}
+-- `look::is_peer_table` meets its contract.
+use Rattle.look_laws.proofs.Sort.{table-first, no-table}
 use Rattle.look.proofs.is_peer_table.Statement.{statement}
 use Rattle.look.proofs.is_peer_table.Tie as tie
 

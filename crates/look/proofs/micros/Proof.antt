@@ -1,11 +1,11 @@
--- `look::micros` meets its contract. Assumes nothing.
+-- `look::micros` meets its contract.
 use mathlib.Core.Path.{_≡_, _∙_, ap}
 use mathlib.Core.Bool.{true}
 use Prim.Native.Nat.{_+_}
 use native.Mathlib.Omega.{arith}
-use Rattle.num.specs.Be.{numAt}
-use Rattle.page.specs.Layout.{finer}
-use Rattle.look.proofs.There.{header-inside, type-shown, late-inside, late-shown}
+use Rattle.octets_spec.specs.Be.{numAt}
+use Rattle.page_spec.specs.Layout.{finer}
+use Rattle.look_laws.proofs.There.{header-inside, type-shown, late-inside, late-shown}
 use borrow.Author.Needs.{needs}
 use Rattle.look.proofs.micros.Statement.{statement}
 use Rattle.look.proofs.micros.Tie as tie

@@ -1,14 +1,14 @@
--- `look::peer_as` meets its contract. Assumes nothing.
+-- `look::peer_as` meets its contract.
 use Prim.Native.Nat.{ℕ}
 use lib.ListN.{getD}
-use Rattle.look.proofs.Items.{wide-size, narrow-size}
+use Rattle.look_laws.proofs.Items.{wide-size, narrow-size}
 use mathlib.Core.Path.{_∙_}
 use native.Mathlib.Omega.{arith}
 use lib.ListN.{drop}
-use Rattle.form.proofs.Octets.{octets-of}
-use Rattle.page.specs.Peers.{peer}
-use Rattle.form.specs.Found.{item}
-use Rattle.look.proofs.Items.{PeerAt, peer-at}
+use Rattle.form_laws.proofs.Octets.{octets-of}
+use Rattle.page_spec.specs.Peers.{peer}
+use Rattle.form_spec.specs.Found.{item}
+use Rattle.look_laws.proofs.Items.{PeerAt, peer-at}
 use borrow.Author.Needs.{needs}
 use Rattle.look.proofs.peer_as.Statement.{statement}
 use Rattle.look.proofs.peer_as.Tie as tie

@@ -1,9 +1,9 @@
--- `look::peer_count_at` meets its contract. Assumes nothing.
+-- `look::peer_count_at` meets its contract.
 use mathlib.Core.Path.{_≡_, sym, _∙_}
 use Prim.Native.Nat.{_+_}
-use Rattle.num.specs.Be.{numAt}
-use Rattle.look.proofs.Sort.{is-table}
-use Rattle.look.proofs.There.{type-shown, subtype-shown, sorted, peers-inside, peers-shown}
+use Rattle.octets_spec.specs.Be.{numAt}
+use Rattle.look_laws.proofs.Sort.{is-table}
+use Rattle.look_laws.proofs.There.{type-shown, subtype-shown, sorted, peers-inside, peers-shown}
 use Rattle.look.proofs.peer_count_at.Statement.{statement}
 use Rattle.look.proofs.peer_count_at.Tie as tie
 

@@ -1,12 +1,12 @@
--- `look::peer_end` meets its contract. Assumes nothing.
+-- `look::peer_end` meets its contract.
 use Prim.Native.Nat.{ℕ}
 use lib.ListN.{getD}
 use native.Mathlib.Omega.{arith}
 use lib.ListN.{drop}
-use Rattle.form.proofs.Octets.{octets-of}
-use Rattle.page.specs.Peers.{peer}
-use Rattle.form.specs.Found.{Lies, item}
-use Rattle.look.proofs.Items.{PeerAt, peer-at, wide-size, narrow-size, small-address}
+use Rattle.form_laws.proofs.Octets.{octets-of}
+use Rattle.page_spec.specs.Peers.{peer}
+use Rattle.form_spec.specs.Found.{Lies, item}
+use Rattle.look_laws.proofs.Items.{PeerAt, peer-at, wide-size, narrow-size, small-address}
 use borrow.Author.Needs.{needs}
 use Rattle.look.proofs.peer_end.Statement.{statement}
 use Rattle.look.proofs.peer_end.Tie as tie

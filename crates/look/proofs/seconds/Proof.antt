@@ -1,8 +1,8 @@
--- `look::seconds` meets its contract. Assumes nothing.
+-- `look::seconds` meets its contract.
 use mathlib.Core.Path.{_∙_, ap}
 use native.Mathlib.Omega.{arith}
-use Rattle.page.specs.Layout.{finer}
-use Rattle.look.proofs.There.{header-inside, type-shown, time-shown}
+use Rattle.page_spec.specs.Layout.{finer}
+use Rattle.look_laws.proofs.There.{header-inside, type-shown, time-shown}
 use Rattle.look.proofs.seconds.Statement.{statement}
 use Rattle.look.proofs.seconds.Tie as tie
 

@@ -1,4 +1,4 @@
--- `parts::address` meets its contract. Assumes nothing.
+-- `parts::address` meets its contract.
 use borrow.Author.Needs.{needs}
 use Rattle.parts.proofs.address.Statement.{statement}
 use Rattle.parts.proofs.address.Tie as tie

@@ -1,4 +1,4 @@
--- `parts::attributes` meets its contract. Assumes nothing.
+-- `parts::attributes` meets its contract.
 use borrow.Author.Needs.{needs}
 use Rattle.parts.proofs.attributes.Statement.{statement}
 use Rattle.parts.proofs.attributes.Tie as tie

@@ -1,5 +1,5 @@
-use Rattle.page.specs.Peers.{peer}
-use Rattle.flow.proofs.Rules.{flow}
+use Rattle.page_spec.specs.Peers.{peer}
+use Rattle.octets_laws.proofs.Rules.{flow}
 use borrow.Author.Needs.{needs}
 use Rattle.peers.proofs.peer_at.Statement.{statement}
 use Rattle.peers.proofs.peer_at.Tie as tie

@@ -1,5 +1,5 @@
-use Rattle.page.specs.Peers.{peerRest}
-use Rattle.flow.proofs.Rules.{flow}
+use Rattle.page_spec.specs.Peers.{peerRest}
+use Rattle.octets_laws.proofs.Rules.{flow}
 use borrow.Author.Needs.{needs}
 use Rattle.peers.proofs.peer_rest.Statement.{statement}
 use Rattle.peers.proofs.peer_rest.Tie as tie

@@ -1,5 +1,5 @@
-use Rattle.page.specs.Peers.{peerSized}
-use Rattle.flow.proofs.Rules.{flow}
+use Rattle.page_spec.specs.Peers.{peerSized}
+use Rattle.octets_laws.proofs.Rules.{flow}
 use borrow.Author.Needs.{needs}
 use Rattle.peers.proofs.peer_sized.Statement.{statement}
 use Rattle.peers.proofs.peer_sized.Tie as tie

@@ -1,7 +1,7 @@
 -- A peer table. The last return: the size of its peers is what a call answered.
-use Rattle.form.specs.Pass.{pass}
-use Rattle.page.specs.Peers.{peerTable, peerList}
-use Rattle.flow.proofs.Rules.{flow}
+use Rattle.form_spec.specs.Pass.{pass}
+use Rattle.page_spec.specs.Peers.{peerTable, peerList}
+use Rattle.octets_laws.proofs.Rules.{flow}
 use borrow.Author.Needs.{needs}
 use Rattle.peers.proofs.peer_table.Statement.{statement}
 use Rattle.peers.proofs.peer_table.Tie as tie

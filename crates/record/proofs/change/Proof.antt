@@ -1,11 +1,11 @@
 -- `record::change` meets its contract: what stands behind the header and its microseconds.
 use mathlib.Core.Path.{_≡_, _∙_}
 use denote.Ref.{now}
-use Rattle.form.specs.Pass.{whole}
-use Rattle.page.specs.Bgp4mp.{session, stateChange}
-use Rattle.shown.specs.Fields as show
-use Rattle.shown.specs.declared.Shown.the-variants.{Refused}
-use Rattle.reading.specs.One.{shownChange}
+use Rattle.form_spec.specs.Pass.{whole}
+use Rattle.page_spec.specs.Bgp4mp.{session, stateChange}
+use Rattle.record_spec.specs.Fields as show
+use Rattle.record_spec.specs.declared.Shown.the-variants.{Refused}
+use Rattle.record_spec.specs.One.{shownChange}
 use Rattle.record.specs.declared.Stamp.{Stamp}
 use Rattle.record.proofs.Laws.{onward, stamped}
 use borrow.Author.Needs.{needs}

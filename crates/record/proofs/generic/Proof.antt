@@ -1,5 +1,5 @@
 -- `record::generic` meets its contract.
-use Rattle.reading.specs.One.{tabled}
+use Rattle.record_spec.specs.One.{tabled}
 use borrow.Author.Needs.{needs}
 use Rattle.record.proofs.generic.Statement.{statement}
 use Rattle.record.proofs.generic.Tie as tie

@@ -1,4 +1,4 @@
--- `record::header_of` meets its contract. Assumes nothing.
+-- `record::header_of` meets its contract.
 use borrow.Author.Needs.{needs}
 use Rattle.record.proofs.header_of.Statement.{statement}
 use Rattle.record.proofs.header_of.Tie as tie

@@ -1,8 +1,8 @@
--- `record::micro_at` meets its contract. Assumes nothing.
+-- `record::micro_at` meets its contract.
 use native.Mathlib.Omega.{arith}
 use denote.Ref.{now}
-use Rattle.reading.specs.One.{microAt}
-use Rattle.flow.proofs.Rules.{flow}
+use Rattle.record_spec.specs.One.{microAt}
+use Rattle.octets_laws.proofs.Rules.{flow}
 use Rattle.record.proofs.Laws.{small-field}
 use borrow.Author.Needs.{needs}
 use Rattle.record.proofs.micro_at.Statement.{statement}

@@ -1,8 +1,8 @@
 -- `record::read_with` meets its contract.
 use Prim.Native.Nat.{_+_}
 use native.Mathlib.Nat.{sub-zero}
-use Rattle.flow.proofs.Rules.{flow}
-use Rattle.reading.specs.One.{readOne}
+use Rattle.octets_laws.proofs.Rules.{flow}
+use Rattle.record_spec.specs.One.{readOne}
 use borrow.Author.Needs.{needs}
 use Rattle.record.proofs.read_with.Statement.{statement}
 use Rattle.record.proofs.read_with.Tie as tie

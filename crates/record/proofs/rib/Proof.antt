@@ -1,5 +1,5 @@
 -- `record::rib` meets its contract.
-use Rattle.reading.specs.One.{tabled}
+use Rattle.record_spec.specs.One.{tabled}
 use borrow.Author.Needs.{needs}
 use Rattle.record.proofs.rib.Statement.{statement}
 use Rattle.record.proofs.rib.Tie as tie

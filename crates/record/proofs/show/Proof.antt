@@ -1,9 +1,9 @@
 -- `record::show` meets its contract.
 use mathlib.Core.Path.{_≡_}
 use native.Mathlib.Omega.{arith}
-use Rattle.page.specs.Sane.{Sane}
-use Rattle.page.specs.declared.Kind.{Kind}
-use Rattle.reading.specs.One.{shownAs}
+use Rattle.page_spec.specs.Sane.{Sane}
+use Rattle.page_spec.specs.declared.Kind.{Kind}
+use Rattle.record_spec.specs.One.{shownAs}
 use borrow.Author.Needs.{needs}
 use Rattle.record.proofs.show.Statement.{statement}
 use Rattle.record.proofs.show.Tie as tie

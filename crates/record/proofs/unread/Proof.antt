@@ -1,10 +1,10 @@
 -- `record::unread` meets its contract: what stands behind the header and its microseconds.
 use mathlib.Core.Path.{_≡_, _∙_}
 use denote.Ref.{now}
-use Rattle.shown.specs.Fields as show
-use Rattle.shown.specs.declared.Shown.the-variants.{Good}
-use Rattle.shown.specs.declared.Body.the-variants.{Unread}
-use Rattle.reading.specs.One.{shownUnread}
+use Rattle.record_spec.specs.Fields as show
+use Rattle.record_spec.specs.declared.Shown.the-variants.{Good}
+use Rattle.record_spec.specs.declared.Body.the-variants.{Unread}
+use Rattle.record_spec.specs.One.{shownUnread}
 use Rattle.record.specs.declared.Stamp.{Stamp}
 use Rattle.record.proofs.Laws.{onward, stamped}
 use borrow.Author.Needs.{needs}

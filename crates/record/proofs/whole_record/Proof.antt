@@ -1,6 +1,6 @@
--- `record::whole_record` meets its contract. Assumes nothing.
-use Rattle.page.proofs.Widths.{sane}
-use Rattle.reading.specs.One.{wholeRecord}
+-- `record::whole_record` meets its contract.
+use Rattle.page_laws.proofs.Widths.{sane}
+use Rattle.record_spec.specs.One.{wholeRecord}
 use borrow.Author.Needs.{needs}
 use Rattle.record.proofs.whole_record.Statement.{statement}
 use Rattle.record.proofs.whole_record.Tie as tie

@@ -1,5 +1,5 @@
-use Rattle.page.specs.Rib.{tiling}
-use Rattle.flow.proofs.Rules.{flow}
+use Rattle.page_spec.specs.Rib.{tiling}
+use Rattle.octets_laws.proofs.Rules.{flow}
 use borrow.Author.Needs.{needs}
 use Rattle.rib.proofs.attributes_at.Statement.{statement}
 use Rattle.rib.proofs.attributes_at.Tie as tie

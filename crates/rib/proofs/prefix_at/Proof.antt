@@ -1,7 +1,7 @@
 -- A prefix, the count and the entries. The last return: what is shown is what two calls answered.
-use Rattle.form.specs.Pass.{pass}
-use Rattle.page.specs.Rib.{prefix, entryList}
-use Rattle.flow.proofs.Rules.{flow}
+use Rattle.form_spec.specs.Pass.{pass}
+use Rattle.page_spec.specs.Rib.{prefix, entryList}
+use Rattle.octets_laws.proofs.Rules.{flow}
 use borrow.Author.Needs.{needs}
 use Rattle.rib.proofs.prefix_at.Statement.{statement}
 use Rattle.rib.proofs.prefix_at.Tie as tie

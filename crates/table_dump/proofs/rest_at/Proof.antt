@@ -1,7 +1,7 @@
--- `table_dump::rest_at` meets its contract. The last return names the facts of its reads, too many for `search` to find. Assumes nothing.
-use Rattle.page.specs.Rib.{attributes}
-use Rattle.page.specs.TableDump.{tableDumpRest}
-use Rattle.flow.proofs.Rules.{flow}
+-- `table_dump::rest_at` meets its contract. The last return names the facts of its reads, too many for `search` to find.
+use Rattle.page_spec.specs.Rib.{attributes}
+use Rattle.page_spec.specs.TableDump.{tableDumpRest}
+use Rattle.octets_laws.proofs.Rules.{flow}
 use borrow.Author.Needs.{needs}
 use Rattle.table_dump.proofs.rest_at.Statement.{statement}
 use Rattle.table_dump.proofs.rest_at.Tie as tie

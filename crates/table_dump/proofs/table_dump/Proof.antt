@@ -1,5 +1,5 @@
-use Rattle.page.specs.TableDump.{tableDump}
-use Rattle.flow.proofs.Rules.{flow}
+use Rattle.page_spec.specs.TableDump.{tableDump}
+use Rattle.octets_laws.proofs.Rules.{flow}
 use borrow.Author.Needs.{needs}
 use Rattle.table_dump.proofs.table_dump.Statement.{statement}
 use Rattle.table_dump.proofs.table_dump.Tie as tie

@@ -1,4 +1,4 @@
--- `vectors::main` ends: it goes over the arguments once. Assumes nothing.
+-- `vectors::main` ends: it goes over the arguments once.
 use Prim.Native.Nat.{ℕ, _-_, _<_, _^_}
 use borrow.Author.Needs.{needs}
 use Rattle.vectors.proofs.main.Statement.{statement}

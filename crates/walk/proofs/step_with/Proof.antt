@@ -1,8 +1,8 @@
 -- `walk::step_with` meets its contract.
 use mathlib.Core.Path.{_≡_, refl, ap, _∙_}
-use Rattle.shown.specs.declared.Shown.{Shown}
-use Rattle.walking.specs.Steps.{stepped, stepOf, stepAt}
-use Rattle.walk.proofs.Laws.{past-end, step-over}
+use Rattle.record_spec.specs.declared.Shown.{Shown}
+use Rattle.walk_spec.specs.Steps.{stepped, stepOf, stepAt}
+use Rattle.walk_laws.proofs.Steps.{past-end, step-over}
 use borrow.Author.Needs.{needs}
 use Rattle.walk.proofs.step_with.Statement.{statement}
 use Rattle.walk.proofs.step_with.Tie as tie

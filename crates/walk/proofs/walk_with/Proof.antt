@@ -1,11 +1,11 @@
--- `walk::walk_with` meets its contract. Assumes nothing.
+-- `walk::walk_with` meets its contract.
 use mathlib.Core.Path.{sym, _∙_}
 use Prim.Native.Nat.{_+_, _-_, _≤_, _<_}
 use native.Mathlib.Omega.{arith}
 use lib.ListN.{length}
-use Rattle.form.specs.Octets.{Octets}
-use Rattle.form.proofs.Octets.{octets-of}
-use Rattle.walking.proofs.Ahead.{Ahead, ahead-all, answer-end, answer-fault, ahead-past}
+use Rattle.form_spec.specs.Octets.{Octets}
+use Rattle.form_laws.proofs.Octets.{octets-of}
+use Rattle.walk_laws.proofs.Ahead.{Ahead, ahead-all, answer-end, answer-fault, ahead-past}
 use Rattle.walk.proofs.Leads.{ahead-leads}
 use borrow.Author.Needs.{needs}
 use Rattle.walk.proofs.walk_with.Statement.{statement}

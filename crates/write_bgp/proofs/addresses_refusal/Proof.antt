@@ -1,6 +1,6 @@
--- `write_bgp::addresses_refusal` meets its contract. Assumes nothing.
-use Rattle.page.specs.Bgp4mp.{addresses}
-use Rattle.flow.proofs.PutRules.{put-flow}
+-- `write_bgp::addresses_refusal` meets its contract.
+use Rattle.page_spec.specs.Bgp4mp.{addresses}
+use Rattle.octets_laws.proofs.PutRules.{put-flow}
 use Rattle.write_bgp.proofs.addresses_refusal.Statement.{statement}
 use Rattle.write_bgp.proofs.addresses_refusal.Tie as tie
 

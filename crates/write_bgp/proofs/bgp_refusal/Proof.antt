@@ -1,17 +1,17 @@
--- `write_bgp::bgp_refusal` meets its contract: the header, then the message's fields. Assumes nothing.
+-- `write_bgp::bgp_refusal` meets its contract: the header, then the message's fields.
 use mathlib.Core.Path.{_≡_, refl, sym, ap, _∙_}
 use mathlib.Core.List.{[], _∷_}
 use Prim.Native.Nat.{ℕ}
 use denote.Ref.{now}
 use lib.Dec.{lit<}
-use Rattle.form.specs.Put.{Given, orElse, large, bodyRefusal}
-use Rattle.form.specs.Shape.{noTable, plan}
-use Rattle.page.specs.Bgp4mp.{message}
-use Rattle.page.specs.Layout.{kind, layoutOf}
-use Rattle.writing.specs.Times.{stampOf, bgp4mp}
-use Rattle.writing.specs.Only.{asOctets, messages}
-use Rattle.writing.specs.Givens.{bgpValues, messageGiven}
-use Rattle.writing.proofs.Turns.{not-own, stops, others, owns}
+use Rattle.form_spec.specs.Put.{Given, orElse, large, bodyRefusal}
+use Rattle.form_spec.specs.Shape.{noTable, plan}
+use Rattle.page_spec.specs.Bgp4mp.{message}
+use Rattle.page_spec.specs.Layout.{kind, layoutFor}
+use Rattle.write_spec.specs.Times.{stampOf, bgp4mp}
+use Rattle.write_spec.specs.Only.{asOctets, messages}
+use Rattle.write_spec.specs.Givens.{bgpValues, messageGiven}
+use Rattle.write_laws.proofs.Turns.{not-own, stops, others, owns}
 use Rattle.write_bgp.proofs.Laws.{type-fits, Found, found}
 use borrow.Author.Needs.{needs}
 use Rattle.write_bgp.proofs.bgp_refusal.Statement.{statement}
@@ -70,7 +70,7 @@ returns-2 c =
     others (s .args .longest) messages noTable (given s) _ _ (lit< tt) (type-fits (s .args .time)) (sym (kind-found (c .before) .page)) (head (search needs)) (search needs) other
 
 returns-3 : tie.Need-returns-3
-unfolding layoutOf plan bodyRefusal
+unfolding layoutFor plan bodyRefusal
 returns-3 c =
     let b : tie.After-width = search needs in
     let s : tie.Start = search needs in

@@ -1,17 +1,17 @@
--- `write_bgp::change_refusal` meets its contract: the header, then the message's fields. Assumes nothing.
+-- `write_bgp::change_refusal` meets its contract: the header, then the message's fields.
 use mathlib.Core.Path.{_≡_, refl, sym, ap, _∙_}
 use mathlib.Core.List.{[], _∷_}
 use Prim.Native.Nat.{ℕ}
 use denote.Ref.{now}
 use lib.Dec.{lit<}
-use Rattle.form.specs.Put.{Given, orElse, large, bodyRefusal}
-use Rattle.form.specs.Shape.{noTable, plan}
-use Rattle.page.specs.Bgp4mp.{stateChange}
-use Rattle.page.specs.Layout.{kind, layoutOf}
-use Rattle.writing.specs.Times.{stampOf, bgp4mp}
-use Rattle.writing.specs.Only.{asOctets, changes}
-use Rattle.writing.specs.Givens.{stateValues, changeGiven}
-use Rattle.writing.proofs.Turns.{not-own, stops, others, owns}
+use Rattle.form_spec.specs.Put.{Given, orElse, large, bodyRefusal}
+use Rattle.form_spec.specs.Shape.{noTable, plan}
+use Rattle.page_spec.specs.Bgp4mp.{stateChange}
+use Rattle.page_spec.specs.Layout.{kind, layoutFor}
+use Rattle.write_spec.specs.Times.{stampOf, bgp4mp}
+use Rattle.write_spec.specs.Only.{asOctets, changes}
+use Rattle.write_spec.specs.Givens.{stateValues, changeGiven}
+use Rattle.write_laws.proofs.Turns.{not-own, stops, others, owns}
 use Rattle.write_bgp.proofs.Laws.{type-fits, Found, found}
 use borrow.Author.Needs.{needs}
 use Rattle.write_bgp.proofs.change_refusal.Statement.{statement}
@@ -72,7 +72,7 @@ returns-2 c =
     others longest changes noTable (given s) _ _ (lit< tt) (type-fits (s .args .time)) (sym (kind-found (c .before) .page)) (head (search needs)) (search needs) other
 
 returns-3 : tie.Need-returns-3
-unfolding layoutOf plan bodyRefusal
+unfolding layoutFor plan bodyRefusal
 returns-3 c =
     λ longest.
     let b : tie.After-width = search needs in

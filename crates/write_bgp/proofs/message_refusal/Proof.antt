@@ -1,11 +1,11 @@
--- `write_bgp::message_refusal` meets its contract: the reader's number. Assumes nothing.
+-- `write_bgp::message_refusal` meets its contract: the reader's number.
 use mathlib.Core.Path.{sym, ap, _∙_}
 use denote.Ref.{now}
-use Rattle.shown.specs.declared.Part.{Part}
-use Rattle.shown.specs.declared.Header.{Header}
-use Rattle.shown.specs.declared.Session.{Session}
-use Rattle.reading.specs.Answer.{fault}
-use Rattle.writing.proofs.Items.{not-refused}
+use Rattle.record_spec.specs.declared.Part.{Part}
+use Rattle.record_spec.specs.declared.Header.{Header}
+use Rattle.record_spec.specs.declared.Session.{Session}
+use Rattle.record_spec.specs.Answer.{fault}
+use Rattle.write_laws.proofs.Items.{not-refused}
 use Rattle.write_bgp.proofs.Judged.{judged}
 use borrow.Author.Needs.{needs}
 use Rattle.write_bgp.proofs.message_refusal.Statement.{statement}

@@ -1,8 +1,8 @@
 -- `write_bgp::opening_size` meets its contract.
 use mathlib.Core.Path.{ap, _∙_}
 use native.Mathlib.Omega.{arith}
-use Rattle.writing.specs.Verdict.{capped}
-use Rattle.writing.proofs.Sums.{summed}
+use Rattle.write_spec.specs.Verdict.{capped}
+use Rattle.write_laws.proofs.Sums.{summed}
 use Rattle.write_bgp.proofs.Laws.{micro-small}
 use borrow.Author.Needs.{needs}
 use Rattle.write_bgp.proofs.opening_size.Statement.{statement}

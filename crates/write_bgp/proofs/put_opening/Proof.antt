@@ -2,10 +2,10 @@
 use mathlib.Core.List.{[]}
 use native.Mathlib.Omega.{arith}
 use denote.Ref.{now}
-use Rattle.writing.specs.Times.{micros}
-use Rattle.writing.specs.Givens.{sessionValues}
-use Rattle.writing.proofs.Answers.{micros-long}
-use Rattle.writing.proofs.Laid.{none, values}
+use Rattle.write_spec.specs.Times.{micros}
+use Rattle.write_spec.specs.Givens.{sessionValues}
+use Rattle.write_laws.proofs.Answers.{micros-long}
+use Rattle.write_laws.proofs.Laid.{none, values}
 use Rattle.write_bgp.proofs.Laws.{opening-long}
 use borrow.Author.Needs.{needs}
 use Rattle.write_bgp.proofs.put_opening.Statement.{statement}

@@ -1,7 +1,7 @@
 -- `write_bgp::put_states` meets its contract.
 use native.Mathlib.Omega.{arith}
 use denote.Ref.{now}
-use Rattle.writing.proofs.Laid.{none, number}
+use Rattle.write_laws.proofs.Laid.{none, number}
 use borrow.Author.Needs.{needs}
 use Rattle.write_bgp.proofs.put_states.Statement.{statement}
 use Rattle.write_bgp.proofs.put_states.Tie as tie

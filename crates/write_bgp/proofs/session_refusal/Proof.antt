@@ -1,6 +1,6 @@
--- `write_bgp::session_refusal` meets its contract. Assumes nothing.
-use Rattle.page.specs.Bgp4mp.{session}
-use Rattle.flow.proofs.PutRules.{put-flow}
+-- `write_bgp::session_refusal` meets its contract.
+use Rattle.page_spec.specs.Bgp4mp.{session}
+use Rattle.octets_laws.proofs.PutRules.{put-flow}
 use borrow.Author.Needs.{needs}
 use Rattle.write_bgp.proofs.session_refusal.Statement.{statement}
 use Rattle.write_bgp.proofs.session_refusal.Tie as tie

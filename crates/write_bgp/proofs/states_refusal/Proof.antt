@@ -1,8 +1,8 @@
--- `write_bgp::states_refusal` meets its contract. Assumes nothing.
+-- `write_bgp::states_refusal` meets its contract.
 use Prim.Native.Nat.{_<_}
 use native.Mathlib.Omega.{arith}
-use Rattle.page.specs.Bgp4mp.{stateChange, state}
-use Rattle.flow.proofs.PutRules.{put-flow}
+use Rattle.page_spec.specs.Bgp4mp.{stateChange, state}
+use Rattle.octets_laws.proofs.PutRules.{put-flow}
 use borrow.Author.Needs.{needs}
 use Rattle.write_bgp.proofs.states_refusal.Statement.{statement}
 use Rattle.write_bgp.proofs.states_refusal.Tie as tie

@@ -1,6 +1,6 @@
--- `write_bgp::width_of` meets its contract. Assumes nothing.
+-- `write_bgp::width_of` meets its contract.
 use mathlib.Core.Path.{sym, ap, _∙_}
-use Rattle.writing.specs.Only.{asOctets}
+use Rattle.write_spec.specs.Only.{asOctets}
 use Rattle.write_bgp.proofs.Laws.{Found, found, no-width}
 use borrow.Author.Needs.{needs}
 use Rattle.write_bgp.proofs.width_of.Statement.{statement}

@@ -5,17 +5,17 @@ use Prim.Native.Nat.{ℕ, _+_, _≤_}
 use native.Mathlib.Omega.{arith}
 use denote.Ref.{now}
 use lib.ListN.{length}
-use Rattle.form.specs.Put.{Given, message}
-use Rattle.form.specs.Shape.{noTable}
-use Rattle.copy.specs.Over.{over}
-use Rattle.page.specs.Layout.{kind}
-use Rattle.writing.specs.Times.{micros, bgp4mp}
-use Rattle.writing.specs.Only.{onlySub, changes, asOctets}
-use Rattle.writing.specs.Givens.{stateValues, changeGiven}
-use Rattle.writing.specs.Verdict.{capped}
-use Rattle.writing.proofs.Sums.{summed}
-use Rattle.writing.proofs.Answers.{refuses, Goes, goes, done}
-use Rattle.writing.proofs.Laid.{none, values}
+use Rattle.form_spec.specs.Put.{Given, message}
+use Rattle.form_spec.specs.Shape.{noTable}
+use Rattle.octets_spec.specs.Over.{over}
+use Rattle.page_spec.specs.Layout.{kind}
+use Rattle.write_spec.specs.Times.{micros, bgp4mp}
+use Rattle.write_spec.specs.Only.{onlySub, changes, asOctets}
+use Rattle.write_spec.specs.Givens.{stateValues, changeGiven}
+use Rattle.write_spec.specs.Verdict.{capped}
+use Rattle.write_laws.proofs.Sums.{summed}
+use Rattle.write_laws.proofs.Answers.{refuses, Goes, goes, done}
+use Rattle.write_laws.proofs.Laid.{none, values}
 use Rattle.write_bgp.specs.Opening.{openingValues, openingSize}
 use Rattle.write_bgp.proofs.Laws.{states-long, opened-long, behind-long}
 use borrow.Author.Needs.{needs}

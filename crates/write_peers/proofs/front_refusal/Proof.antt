@@ -1,5 +1,5 @@
--- `write_peers::front_refusal` meets its contract. Assumes nothing.
-use Rattle.flow.proofs.PutRules.{put-flow}
+-- `write_peers::front_refusal` meets its contract.
+use Rattle.octets_laws.proofs.PutRules.{put-flow}
 use borrow.Author.Needs.{needs}
 use Rattle.write_peers.proofs.front_refusal.Statement.{statement}
 use Rattle.write_peers.proofs.front_refusal.Tie as tie

@@ -1,9 +1,9 @@
--- `write_peers::peers_refusal` meets its contract. Assumes nothing.
+-- `write_peers::peers_refusal` meets its contract.
 use mathlib.Core.Path.{sym, ap, _∙_}
 use denote.Ref.{now}
-use Rattle.page.specs.Peers.{peer}
-use Rattle.reading.specs.Answer.{fault}
-use Rattle.writing.proofs.Items.{not-refused, count-large, items-judged}
+use Rattle.page_spec.specs.Peers.{peer}
+use Rattle.record_spec.specs.Answer.{fault}
+use Rattle.write_laws.proofs.Items.{not-refused, count-large, items-judged}
 use borrow.Author.Needs.{needs}
 use Rattle.write_peers.proofs.peers_refusal.Statement.{statement}
 use Rattle.write_peers.proofs.peers_refusal.Tie as tie

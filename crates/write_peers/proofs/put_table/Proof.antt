@@ -3,8 +3,8 @@ use mathlib.Core.Path.{ap, _∙_}
 use mathlib.Core.List.{append-assoc, append-nil}
 use native.Mathlib.Omega.{arith}
 use denote.Ref.{now}
-use Rattle.copy.specs.Over.{over}
-use Rattle.writing.proofs.Laid.{none, number, octets}
+use Rattle.octets_spec.specs.Over.{over}
+use Rattle.write_laws.proofs.Laid.{none, number, octets}
 use borrow.Author.Needs.{needs}
 use Rattle.write_peers.proofs.put_table.Statement.{statement}
 use Rattle.write_peers.proofs.put_table.Tie as tie

@@ -1,20 +1,20 @@
--- `write_peers::table_refusal` meets its contract. Assumes nothing.
+-- `write_peers::table_refusal` meets its contract.
 use mathlib.Core.Path.{_≡_, refl, sym}
 use Prim.Native.Nat.{ℕ}
 use native.Mathlib.Omega.{arith}
 use denote.Ref.{now}
-use Rattle.form.specs.Fmt.{end}
-use Rattle.form.specs.Body.{many}
-use Rattle.form.specs.Put.{Given, bodyRefusal, fieldsRefusal}
-use Rattle.form.specs.Shape.{noTable, plan}
-use Rattle.form.specs.Words.{choose}
-use Rattle.page.specs.Layout.{kind13, kind, layoutOf}
-use Rattle.page.specs.declared.Kind.the-variants.{PeerTable}
-use Rattle.flow.proofs.PutRules.{is-large, not-large}
-use Rattle.page.specs.Peers.{peer, tableHead}
-use Rattle.writing.specs.Only.{onlySub, peerTables}
-use Rattle.writing.specs.Givens.{peerTableGiven}
-use Rattle.writing.proofs.Turns.{front-stops, front-passes, stops, owns}
+use Rattle.form_spec.specs.Fmt.{end}
+use Rattle.form_spec.specs.Body.{many}
+use Rattle.form_spec.specs.Put.{Given, bodyRefusal, fieldsRefusal}
+use Rattle.form_spec.specs.Shape.{noTable, plan}
+use Rattle.form_spec.specs.Words.{choose}
+use Rattle.page_spec.specs.Layout.{kind13, kind, layoutFor}
+use Rattle.page_spec.specs.declared.Kind.the-variants.{PeerTable}
+use Rattle.octets_laws.proofs.PutRules.{is-large, not-large}
+use Rattle.page_spec.specs.Peers.{peer, tableHead}
+use Rattle.write_spec.specs.Only.{onlySub, peerTables}
+use Rattle.write_spec.specs.Givens.{peerTableGiven}
+use Rattle.write_laws.proofs.Turns.{front-stops, front-passes, stops, owns}
 use borrow.Author.Needs.{needs}
 use Rattle.write_peers.proofs.table_refusal.Statement.{statement}
 use Rattle.write_peers.proofs.table_refusal.Tie as tie
@@ -45,7 +45,7 @@ called c = c .before .before .before .before
 -- the header's fields are sound, and the message is refused with r
 passes : (longest r : ℕ) (c : tie.Else1) → let s = called c in
     r ≡ bodyRefusal (many (tableHead (end 0)) peer) (given s .values) (given s .tail) → r ≡ fieldsRefusal (onlySub peerTables longest) noTable (given s)
-unfolding kind kind13 choose layoutOf plan
+unfolding kind kind13 choose layoutFor plan
 passes longest r c e =
     let s = called c in
     owns longest peerTables noTable (given s) PeerTable 0 (omega arith) refl refl (sym (rw (not-large 4 (s .args .timestamp) _ (c .before .large .ensures) (c .if1 .left)))) r (omega arith) refl e

@@ -3,13 +3,13 @@ use mathlib.Core.Path.{_≡_, refl, ap, _∙_}
 use Prim.Native.Nat.{ℕ, _+_}
 use denote.Ref.{now}
 use lib.ListN.{length}
-use Rattle.form.specs.Put.{Given, message}
-use Rattle.form.specs.Shape.{noTable}
-use Rattle.writing.specs.Only.{onlySub, peerTables}
-use Rattle.writing.specs.Givens.{peerTableGiven}
-use Rattle.writing.specs.Verdict.{capped}
-use Rattle.writing.proofs.Sums.{summed}
-use Rattle.writing.proofs.Answers.{refuses, Goes, goes, done}
+use Rattle.form_spec.specs.Put.{Given, message}
+use Rattle.form_spec.specs.Shape.{noTable}
+use Rattle.write_spec.specs.Only.{onlySub, peerTables}
+use Rattle.write_spec.specs.Givens.{peerTableGiven}
+use Rattle.write_spec.specs.Verdict.{capped}
+use Rattle.write_laws.proofs.Sums.{summed}
+use Rattle.write_laws.proofs.Answers.{refuses, Goes, goes, done}
 use Rattle.write_peers.proofs.Laws.{table-length}
 use borrow.Author.Needs.{needs}
 use Rattle.write_peers.proofs.write_peer_table.Statement.{statement}

@@ -1,9 +1,9 @@
--- `write_rib::entries_refusal` meets its contract. Assumes nothing.
+-- `write_rib::entries_refusal` meets its contract.
 use mathlib.Core.Path.{sym, ap, _∙_}
 use denote.Ref.{now}
-use Rattle.page.specs.Rib.{entry}
-use Rattle.reading.specs.Answer.{fault}
-use Rattle.writing.proofs.Items.{not-refused, count-large, items-judged}
+use Rattle.page_spec.specs.Rib.{entry}
+use Rattle.record_spec.specs.Answer.{fault}
+use Rattle.write_laws.proofs.Items.{not-refused, count-large, items-judged}
 use borrow.Author.Needs.{needs}
 use Rattle.write_rib.proofs.entries_refusal.Statement.{statement}
 use Rattle.write_rib.proofs.entries_refusal.Tie as tie

@@ -1,5 +1,5 @@
--- `write_rib::generic_refusal` meets its contract. Assumes nothing.
-use Rattle.flow.proofs.PutRules.{put-flow}
+-- `write_rib::generic_refusal` meets its contract.
+use Rattle.octets_laws.proofs.PutRules.{put-flow}
 use borrow.Author.Needs.{needs}
 use Rattle.write_rib.proofs.generic_refusal.Statement.{statement}
 use Rattle.write_rib.proofs.generic_refusal.Tie as tie

@@ -1,19 +1,19 @@
--- `write_rib::generic_rib_refusal` meets its contract. Assumes nothing.
+-- `write_rib::generic_rib_refusal` meets its contract.
 use mathlib.Core.Path.{_≡_, refl}
 use Prim.Native.Nat.{ℕ}
 use native.Mathlib.Omega.{arith}
 use denote.Ref.{now}
-use Rattle.form.specs.Fmt.{end}
-use Rattle.form.specs.Put.{Given, bodyRefusal, fieldsRefusal}
-use Rattle.form.specs.Shape.{entries, plan}
-use Rattle.form.specs.Words.{choose, within}
-use Rattle.page.specs.Layout.{kind13, kind, layoutOf}
-use Rattle.page.specs.Rib.{genericHead, entryRest}
-use Rattle.page.specs.declared.Kind.the-variants.{RibGeneric}
-use Rattle.shown.specs.Table.{tableOf}
-use Rattle.writing.specs.Only.{onlySub, genericRibs}
-use Rattle.writing.specs.Givens.{ribGenericGiven}
-use Rattle.writing.proofs.Turns.{stops, owns}
+use Rattle.form_spec.specs.Fmt.{end}
+use Rattle.form_spec.specs.Put.{Given, bodyRefusal, fieldsRefusal}
+use Rattle.form_spec.specs.Shape.{entries, plan}
+use Rattle.form_spec.specs.Words.{choose, inRange}
+use Rattle.page_spec.specs.Layout.{kind13, kind, layoutFor}
+use Rattle.page_spec.specs.Rib.{genericHead, entryRest}
+use Rattle.page_spec.specs.declared.Kind.the-variants.{RibGeneric}
+use Rattle.record_spec.specs.Table.{stateOf}
+use Rattle.write_spec.specs.Only.{onlySub, genericRibs}
+use Rattle.write_spec.specs.Givens.{ribGenericGiven}
+use Rattle.write_laws.proofs.Turns.{stops, owns}
 use Rattle.write_rib.proofs.Laws.{no-table, held-stops, held-passes}
 use borrow.Author.Needs.{needs}
 use Rattle.write_rib.proofs.generic_rib_refusal.Statement.{statement}
@@ -40,11 +40,11 @@ given s =
     ribGenericGiven (a .timestamp) (a .sequence) (a .family) (a .safi) (a .bits) (now (a .prefix)) (a .count) (now (a .entries))
 
 returns : tie.Need-returns
-unfolding kind kind13 choose within
+unfolding kind kind13 choose inRange
 returns c =
     λ longest.
     let s : tie.Start = search needs in
-    stops longest genericRibs (tableOf (s .args .told)) (given s) RibGeneric _ (omega arith) refl refl (c .before .head-refusal .ensures) (c .if1 .taken)
+    stops longest genericRibs (stateOf (s .args .told)) (given s) RibGeneric _ (omega arith) refl refl (c .before .head-refusal .ensures) (c .if1 .taken)
 
 -- the state in which the function was called
 abbrev called : tie.Else1 → tie.Start
@@ -52,12 +52,12 @@ called c = c .before .before .before .before
 
 -- the header's fields are sound, and the message is refused with r
 passes : (longest r : ℕ) (c : tie.Else1) → let s = called c in
-    r ≡ bodyRefusal (plan (tableOf (s .args .told)) (entries (genericHead (end 0)) entryRest)) (given s .values) (given s .tail)
-    → r ≡ fieldsRefusal (onlySub genericRibs longest) (tableOf (s .args .told)) (given s)
-unfolding kind kind13 choose within layoutOf
+    r ≡ bodyRefusal (plan (stateOf (s .args .told)) (entries (genericHead (end 0)) entryRest)) (given s .values) (given s .tail)
+    → r ≡ fieldsRefusal (onlySub genericRibs longest) (stateOf (s .args .told)) (given s)
+unfolding kind kind13 choose inRange layoutFor
 passes longest r c e =
     let s = called c in
-    owns longest genericRibs (tableOf (s .args .told)) (given s) RibGeneric _ (omega arith) refl refl (c .before .head-refusal .ensures) r (c .if1 .left) refl e
+    owns longest genericRibs (stateOf (s .args .told)) (given s) RibGeneric _ (omega arith) refl refl (c .before .head-refusal .ensures) r (c .if1 .left) refl e
 
 returns-2 : tie.Need-returns-2
 returns-2 c = λ longest. let e : tie.Else1 = search needs in passes longest _ e (no-table _ _ _ _ _ (c .enum-told .given .1))

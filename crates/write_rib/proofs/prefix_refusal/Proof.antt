@@ -1,6 +1,6 @@
--- `write_rib::prefix_refusal` meets its contract. Assumes nothing.
-use Rattle.page.specs.Rib.{prefix}
-use Rattle.flow.proofs.PutRules.{put-flow}
+-- `write_rib::prefix_refusal` meets its contract.
+use Rattle.page_spec.specs.Rib.{prefix}
+use Rattle.octets_laws.proofs.PutRules.{put-flow}
 use borrow.Author.Needs.{needs}
 use Rattle.write_rib.proofs.prefix_refusal.Statement.{statement}
 use Rattle.write_rib.proofs.prefix_refusal.Tie as tie

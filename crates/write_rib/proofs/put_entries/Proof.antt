@@ -1,10 +1,10 @@
--- `write_rib::put_entries` meets its contract: each field goes behind the one before. Assumes nothing.
+-- `write_rib::put_entries` meets its contract: each field goes behind the one before.
 use mathlib.Core.Path.{ap, _∙_}
 use mathlib.Core.List.{append-assoc, append-nil}
 use native.Mathlib.Omega.{arith}
 use denote.Ref.{now}
-use Rattle.copy.specs.Over.{over}
-use Rattle.writing.proofs.Laid.{none, number, octets}
+use Rattle.octets_spec.specs.Over.{over}
+use Rattle.write_laws.proofs.Laid.{none, number, octets}
 use borrow.Author.Needs.{needs}
 use Rattle.write_rib.proofs.put_entries.Statement.{statement}
 use Rattle.write_rib.proofs.put_entries.Tie as tie

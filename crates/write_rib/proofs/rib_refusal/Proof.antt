@@ -1,22 +1,22 @@
--- `write_rib::rib_refusal` meets its contract. Assumes nothing.
+-- `write_rib::rib_refusal` meets its contract.
 use mathlib.Core.Path.{_≡_, refl, sym, _∙_}
 use mathlib.Core.List.{[], _∷_}
 use Prim.Native.Nat.{ℕ}
 use native.Mathlib.Omega.{arith}
 use denote.Ref.{now}
-use Rattle.form.specs.Fmt.{end}
-use Rattle.form.specs.Put.{Given, refusal, bodyRefusal, fieldsRefusal}
-use Rattle.form.specs.Shape.{entries, plan}
-use Rattle.form.specs.Words.{choose}
-use Rattle.page.specs.Layout.{kind13, kind, layoutOf}
-use Rattle.page.specs.Rib.{ribHead, entryRest}
-use Rattle.page.specs.declared.Kind.the-variants.{Rib}
-use Rattle.shown.specs.Table.{tableOf}
-use Rattle.flow.proofs.PutRules.{number-fits, number-large}
-use Rattle.page.proofs.Widths.{sane13}
-use Rattle.writing.specs.Only.{onlySub, ribs}
-use Rattle.writing.specs.Givens.{ribGiven}
-use Rattle.writing.proofs.Turns.{not-own, stops, others, owns}
+use Rattle.form_spec.specs.Fmt.{end}
+use Rattle.form_spec.specs.Put.{Given, refusal, bodyRefusal, fieldsRefusal}
+use Rattle.form_spec.specs.Shape.{entries, plan}
+use Rattle.form_spec.specs.Words.{choose}
+use Rattle.page_spec.specs.Layout.{kind13, kind, layoutFor}
+use Rattle.page_spec.specs.Rib.{ribHead, entryRest}
+use Rattle.page_spec.specs.declared.Kind.the-variants.{Rib}
+use Rattle.record_spec.specs.Table.{stateOf}
+use Rattle.octets_laws.proofs.PutRules.{number-fits, number-large}
+use Rattle.page_laws.proofs.Widths.{sane13}
+use Rattle.write_spec.specs.Only.{onlySub, ribs}
+use Rattle.write_spec.specs.Givens.{ribGiven}
+use Rattle.write_laws.proofs.Turns.{not-own, stops, others, owns}
 use Rattle.write_rib.proofs.Laws.{no-table, held-stops, held-passes}
 use borrow.Author.Needs.{needs}
 use Rattle.write_rib.proofs.rib_refusal.Statement.{statement}
@@ -53,7 +53,7 @@ unfolding kind choose
 returns c =
     λ longest.
     let s : tie.Start = search needs in
-    stops longest ribs (tableOf (s .args .told)) (given s) _ _ (omega arith) refl refl (c .before .head-refusal .ensures) (c .if1 .taken)
+    stops longest ribs (stateOf (s .args .told)) (given s) _ _ (omega arith) refl refl (c .before .head-refusal .ensures) (c .if1 .taken)
 
 returns-2 : tie.Need-returns-2
 unfolding kind choose
@@ -62,7 +62,7 @@ returns-2 c =
     let k = c .before .kind-13 in
     let e : tie.Else1 = search needs in
     let s : tie.Start = search needs in
-    others longest ribs (tableOf (s .args .told)) (given s) _ _ (omega arith) refl (sym (k .ensures)) (e .before .head-refusal .ensures) (e .if1 .left) (not-own (0 ∷ 1 ∷ 2 ∷ 3 ∷ 5 ∷ 6 ∷ 7 ∷ []) ribs 4 (k .result) refl tt (c .match .keys2))
+    others longest ribs (stateOf (s .args .told)) (given s) _ _ (omega arith) refl (sym (k .ensures)) (e .before .head-refusal .ensures) (e .if1 .left) (not-own (0 ∷ 1 ∷ 2 ∷ 3 ∷ 5 ∷ 6 ∷ 7 ∷ []) ribs 4 (k .result) refl tt (c .match .keys2))
 
 -- ---- the Subtype is one of the writer's
 
@@ -79,13 +79,13 @@ kind-is c = sym (c .before .before .kind-13 .ensures) ∙ c .most .given .1
 
 -- the message is refused with r
 passes : (longest r : ℕ) (c : tie.After-most) → let s = called c in
-    r ≡ bodyRefusal (plan (tableOf (s .args .told)) (entries (ribHead (bits c) (end 0)) entryRest)) (given s .values) (given s .tail)
-    → r ≡ fieldsRefusal (onlySub ribs longest) (tableOf (s .args .told)) (given s)
-unfolding kind choose layoutOf
+    r ≡ bodyRefusal (plan (stateOf (s .args .told)) (entries (ribHead (bits c) (end 0)) entryRest)) (given s .values) (given s .tail)
+    → r ≡ fieldsRefusal (onlySub ribs longest) (stateOf (s .args .told)) (given s)
+unfolding kind choose layoutFor
 passes longest r c h =
     let e : tie.Else1 = search needs in
     let s = called c in
-    owns longest ribs (tableOf (s .args .told)) (given s) _ _ (omega arith) refl (kind-is c) (e .before .head-refusal .ensures) r (e .if1 .left) refl h
+    owns longest ribs (stateOf (s .args .told)) (given s) _ _ (omega arith) refl (kind-is c) (e .before .head-refusal .ensures) r (e .if1 .left) refl h
 
 returns-3 : tie.Need-returns-3
 returns-3 c = λ longest. let k : tie.After-most = search needs in passes longest _ k (no-table _ _ _ _ _ (c .enum-told .given .1))

@@ -1,16 +1,16 @@
--- `write_table_dump::dump_refusal` meets its contract. Assumes nothing.
+-- `write_table_dump::dump_refusal` meets its contract.
 use mathlib.Core.Path.{refl, sym, _∙_}
 use mathlib.Core.List.{[], _∷_}
 use native.Mathlib.Omega.{arith}
 use denote.Ref.{now}
-use Rattle.form.specs.Put.{Given, bodyRefusal}
-use Rattle.form.specs.Shape.{noTable, plan}
-use Rattle.form.specs.Words.{choose}
-use Rattle.page.specs.Layout.{kind, layoutOf}
-use Rattle.page.proofs.Widths.{sane12}
-use Rattle.writing.specs.Only.{tableDumps}
-use Rattle.writing.specs.Givens.{tableDumpGiven}
-use Rattle.writing.proofs.Turns.{not-own, stops, others, owns}
+use Rattle.form_spec.specs.Put.{Given, bodyRefusal}
+use Rattle.form_spec.specs.Shape.{noTable, plan}
+use Rattle.form_spec.specs.Words.{choose}
+use Rattle.page_spec.specs.Layout.{kind, layoutFor}
+use Rattle.page_laws.proofs.Widths.{sane12}
+use Rattle.write_spec.specs.Only.{tableDumps}
+use Rattle.write_spec.specs.Givens.{tableDumpGiven}
+use Rattle.write_laws.proofs.Turns.{not-own, stops, others, owns}
 use borrow.Author.Needs.{needs}
 use Rattle.write_table_dump.proofs.dump_refusal.Statement.{statement}
 use Rattle.write_table_dump.proofs.dump_refusal.Tie as tie
@@ -48,7 +48,7 @@ returns-2 c =
     others longest tableDumps noTable (given s) _ _ (omega arith) refl (sym (k .ensures)) (e .before .head-refusal .ensures) (e .if1 .left) (not-own (0 ∷ 1 ∷ 3 ∷ 4 ∷ 5 ∷ 6 ∷ 7 ∷ []) tableDumps 2 (k .result) refl tt (c .match .keys2))
 
 returns-3 : tie.Need-returns-3
-unfolding kind choose layoutOf plan bodyRefusal
+unfolding kind choose layoutFor plan bodyRefusal
 returns-3 c =
     λ longest.
     let k : tie.After-kind-12 = search needs in

@@ -1,7 +1,7 @@
--- `write_table_dump::put_rest` meets its contract: each field goes behind the one before. Assumes nothing.
+-- `write_table_dump::put_rest` meets its contract: each field goes behind the one before.
 use native.Mathlib.Omega.{arith}
 use denote.Ref.{now}
-use Rattle.writing.proofs.Laid.{none, number, octets}
+use Rattle.write_laws.proofs.Laid.{none, number, octets}
 use borrow.Author.Needs.{needs}
 use Rattle.write_table_dump.proofs.put_rest.Statement.{statement}
 use Rattle.write_table_dump.proofs.put_rest.Tie as tie

@@ -1,7 +1,7 @@
--- `write_table_dump::rest_refusal` meets its contract. Assumes nothing.
-use Rattle.page.specs.Rib.{attributes, tiling}
-use Rattle.page.specs.TableDump.{tableDumpRest}
-use Rattle.flow.proofs.PutRules.{put-flow}
+-- `write_table_dump::rest_refusal` meets its contract.
+use Rattle.page_spec.specs.Rib.{attributes, tiling}
+use Rattle.page_spec.specs.TableDump.{tableDumpRest}
+use Rattle.octets_laws.proofs.PutRules.{put-flow}
 use borrow.Author.Needs.{needs}
 use Rattle.write_table_dump.proofs.rest_refusal.Statement.{statement}
 use Rattle.write_table_dump.proofs.rest_refusal.Tie as tie

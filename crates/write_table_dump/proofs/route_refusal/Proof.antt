@@ -1,6 +1,6 @@
--- `write_table_dump::route_refusal` meets its contract. Assumes nothing.
-use Rattle.page.specs.TableDump.{tableDump}
-use Rattle.flow.proofs.PutRules.{put-flow}
+-- `write_table_dump::route_refusal` meets its contract.
+use Rattle.page_spec.specs.TableDump.{tableDump}
+use Rattle.octets_laws.proofs.PutRules.{put-flow}
 use borrow.Author.Needs.{needs}
 use Rattle.write_table_dump.proofs.route_refusal.Statement.{statement}
 use Rattle.write_table_dump.proofs.route_refusal.Tie as tie

@@ -1,15 +1,15 @@
--- `write_table_dump::write_table_dump` meets its contract: what it is given, its size, and what is known once it may write. Assumes nothing.
+-- `write_table_dump::write_table_dump` meets its contract: what it is given, its size, and what is known once it may write.
 use mathlib.Core.Path.{_≡_, refl, ap, _∙_}
 use Prim.Native.Nat.{ℕ, _+_, _≤_}
 use denote.Ref.{now}
 use lib.ListN.{length}
-use Rattle.form.specs.Put.{Given, message}
-use Rattle.form.specs.Shape.{noTable}
-use Rattle.writing.specs.Only.{onlySub, tableDumps}
-use Rattle.writing.specs.Givens.{tableDumpGiven}
-use Rattle.writing.specs.Verdict.{capped}
-use Rattle.writing.proofs.Sums.{summed}
-use Rattle.writing.proofs.Answers.{refuses, Goes, goes, done}
+use Rattle.form_spec.specs.Put.{Given, message}
+use Rattle.form_spec.specs.Shape.{noTable}
+use Rattle.write_spec.specs.Only.{onlySub, tableDumps}
+use Rattle.write_spec.specs.Givens.{tableDumpGiven}
+use Rattle.write_spec.specs.Verdict.{capped}
+use Rattle.write_laws.proofs.Sums.{summed}
+use Rattle.write_laws.proofs.Answers.{refuses, Goes, goes, done}
 use Rattle.write_table_dump.proofs.Laws.{dump-length, dump-laid}
 use borrow.Author.Needs.{needs}
 use Rattle.write_table_dump.proofs.write_table_dump.Statement.{statement}

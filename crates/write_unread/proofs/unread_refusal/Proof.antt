@@ -1,16 +1,16 @@
--- `write_unread::unread_refusal` meets its contract: the header's fields in turn. Assumes nothing.
+-- `write_unread::unread_refusal` meets its contract: the header's fields in turn.
 use mathlib.Core.Path.{_≡_, sym, ap, _∙_}
 use mathlib.Core.List.{[], _∷_}
 use Prim.Native.Nat.{ℕ, _^_}
 use lib.Dec.{leb}
-use Rattle.form.specs.Fmt.{end}
-use Rattle.form.specs.Put.{large, typeRefusal, fieldsRefusal}
-use Rattle.page.specs.Layout.{layoutOf}
-use Rattle.page.specs.declared.Kind.the-variants.{Unread}
-use Rattle.flow.proofs.PutRules.{is-large, not-large}
-use Rattle.writing.specs.Times.{stampOf, microOf}
-use Rattle.writing.specs.Only.{unreads, onlyType}
-use Rattle.writing.proofs.Turns.{unread-tag, not-own}
+use Rattle.form_spec.specs.Fmt.{end}
+use Rattle.form_spec.specs.Put.{large, typeRefusal, fieldsRefusal}
+use Rattle.page_spec.specs.Layout.{layoutFor}
+use Rattle.page_spec.specs.declared.Kind.the-variants.{Unread}
+use Rattle.octets_laws.proofs.PutRules.{is-large, not-large}
+use Rattle.write_spec.specs.Times.{stampOf, microSize}
+use Rattle.write_spec.specs.Only.{unreads, onlyType}
+use Rattle.write_laws.proofs.Turns.{unread-tag, not-own}
 use Rattle.write_unread.proofs.Laws.{other-micro, not-unread, is-unread, unread-typed, unread-body, nothing-left}
 use borrow.Author.Needs.{needs}
 use Rattle.write_unread.proofs.unread_refusal.Statement.{statement}
@@ -63,7 +63,7 @@ called-own c = c .before .before .before .before .before .before .before .before
 
 -- the kind is the writer's own
 own : (longest : ℕ) (c : tie.Else3) → let a = called-own c .args in
-    onlyType (unreads (microOf (a .time))) longest (a .ty) (a .subtype) ≡ layoutOf longest (Unread (microOf (a .time)))
+    onlyType (unreads (microSize (a .time))) longest (a .ty) (a .subtype) ≡ layoutFor longest (Unread (microSize (a .time)))
 own longest c =
     let k : tie.After-kind-of = search needs in
     is-unread longest _ _ _ _ (k .kind-of .ensures) (c .before .before .before .n .given .1) (c .if3 .left ∙ c .before .micro .ensures)
@@ -89,7 +89,7 @@ returns-3 c =
     let e2 : tie.Else2 = search needs in
     let e1 : tie.Else1 = search needs in
     let s : tie.Start = search needs in
-    let m : ℕ = microOf (s .args .time) in
+    let m : ℕ = microSize (s .args .time) in
     let other = not-own (0 ∷ 2 ∷ 3 ∷ 4 ∷ 5 ∷ 6 ∷ 7 ∷ []) _ 1 (c .before .kind-of .result) (unread-tag m) tt (c .match .keys2) in
     sym (rw (stamp-fits e1, type-fits e2, not-unread longest m _ _ (c .before .kind-of .ensures) other))
 

@@ -1,18 +1,18 @@
--- `write_unread::write_unread` meets its contract: header, microseconds, contents. Assumes nothing.
+-- `write_unread::write_unread` meets its contract: header, microseconds, contents.
 use mathlib.Core.Path.{_≡_, refl, sym, ap, _∙_}
 use Prim.Native.Nat.{ℕ, _+_, _≤_}
 use native.Mathlib.Omega.{arith}
 use denote.Ref.{now}
 use lib.ListN.{length}
-use Rattle.form.specs.Fmt.{join}
-use Rattle.form.specs.Put.{Given, lay, message}
-use Rattle.form.specs.Shape.{noTable}
-use Rattle.copy.proofs.Laws.{more}
-use Rattle.writing.specs.Times.{microOf, micros}
-use Rattle.writing.specs.Only.{unreads, onlyType}
-use Rattle.writing.specs.Givens.{unreadGiven}
-use Rattle.writing.specs.Verdict.{capped}
-use Rattle.writing.proofs.Answers.{refuses, Goes, goes, done, micros-long}
+use Rattle.form_spec.specs.Fmt.{join}
+use Rattle.form_spec.specs.Put.{Given, lay, message}
+use Rattle.form_spec.specs.Shape.{noTable}
+use Rattle.octets_laws.proofs.Over.{more}
+use Rattle.write_spec.specs.Times.{microSize, micros}
+use Rattle.write_spec.specs.Only.{unreads, onlyType}
+use Rattle.write_spec.specs.Givens.{unreadGiven}
+use Rattle.write_spec.specs.Verdict.{capped}
+use Rattle.write_laws.proofs.Answers.{refuses, Goes, goes, done, micros-long}
 use Rattle.write_unread.proofs.Laws.{message-long}
 use borrow.Author.Needs.{needs}
 use Rattle.write_unread.proofs.write_unread.Statement.{statement}
@@ -68,12 +68,12 @@ returns c =
 -- ---- the record goes into the buffer
 
 fine : (longest : ℕ) (c : tie.After-enum-told) → let v = c .before .before in let a = called v .args in
-    Goes (onlyType (unreads (microOf (a .time))) longest) noTable (given v) (now (a .out)) (size v) (v .verdict .result)
+    Goes (onlyType (unreads (microSize (a .time))) longest) noTable (given v) (now (a .out)) (size v) (v .verdict .result)
 fine longest c =
     let v : tie.After-verdict = c .before .before in
     goes _ _ _ _ _ _ _ _ (v .before .unread-refusal .ensures longest) (sized v) refl (v .verdict .ensures) _ (c .enum-told .given .1)
 
-space : (c : tie.After-enum-told) → let a = called (c .before .before) .args in 12 + (microOf (a .time) + length (now (a .contents))) ≤ length (now (a .out))
+space : (c : tie.After-enum-told) → let a = called (c .before .before) .args in 12 + (microSize (a .time) + length (now (a .contents))) ≤ length (now (a .out))
 space c =
     let a = called (c .before .before) .args in
     let l = message-long (a .time) (a .ty) (a .subtype) (now (a .contents)) in

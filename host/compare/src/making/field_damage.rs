@@ -40,7 +40,7 @@ fn damaged(dump: &[u8], spot: &Spot, rng: &mut Rng) -> Vec<u8> {
 struct Damage<'a> {
     dump: Vec<u8>,
     spot: &'a Spot,
-    /// Whether octets are put in or taken out for a new value, and the sizes around made right.
+    /// Whether octets are inserted or removed for a new value, and the sizes around made right.
     fits: bool,
 }
 
@@ -110,7 +110,7 @@ impl Damage<'_> {
         drawn & most
     }
 
-    /// Octets put in or taken out where the field's new value says so.
+    /// Octets inserted or removed where the field's new value says so.
     fn fit(&mut self, old: usize, new: usize, rng: &mut Rng) {
         let measured = self.spot.measured.clone();
         if matches!(self.spot.field, Field::TablePeerCount | Field::RibEntryCount) {

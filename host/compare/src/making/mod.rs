@@ -18,16 +18,16 @@ use second::vectors::rng::Rng;
 /// What a dump is for.
 #[derive(Clone, Copy, Debug, PartialEq, Eq)]
 pub enum Kind {
-    /// Octets of chance: the header's faults, and no sense at all.
+    /// Random octets: the header's faults, and no sense at all.
     Octets,
-    /// Headers of types and subtypes that are read, before messages of chance: fields in every
+    /// Headers of types and subtypes that are read, before random messages: fields in every
     /// state of being there.
     Headers,
     /// Good records of every layout: that nothing good is refused, and what a cut leaves.
     Good,
     /// Records in which a field now and then has a value at or over its edge: each check by itself.
     Edges,
-    /// Good records, then octets changed, put in or taken out with no regard to fields.
+    /// Good records, then octets changed, inserted or removed with no regard to fields.
     Damaged,
     /// Good records, of which one named field is damaged: what a fast look must not let pass.
     Fields,

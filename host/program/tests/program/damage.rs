@@ -16,7 +16,7 @@ fn count() -> usize {
     }
 }
 
-/// Octets changed, put in, taken out or the end cut off; now and then none.
+/// Octets changed, inserted, removed or the end cut off; now and then none.
 fn damage(random: &mut Rng, dump: &mut Vec<u8>) {
     for _ in 0..random.below(3) {
         let at = random.below(dump.len());

@@ -1,0 +1,3 @@
+pub mod RecordAnswers
+pub mod Unjudged
+pub mod Answers

@@ -1,3 +1,0 @@
-pub mod Moved
-pub mod Laid
-pub mod Lost

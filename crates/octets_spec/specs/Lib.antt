@@ -1,0 +1,3 @@
+pub mod Over
+pub mod Field
+pub mod Be

@@ -1,0 +1,61 @@
+-- The writer of a record's kind refuses it just where the whole page does.
+use mathlib.Core.Path.{_≡_, refl, sym}
+use mathlib.Core.Bool.{Bool, true, false}
+use Prim.Native.Nat.{ℕ, suc}
+use native.Mathlib.Omega.{arith}
+use lib.Dec.{eqb}
+use borrow.Author.Tests.{eq-eqb, eqb-true}
+use Rattle.form_spec.specs.Words.{choose}
+use Rattle.form_spec.specs.Shape.{Layout, St, noTable, plan}
+use Rattle.form_spec.specs.Put.{Given, large, refusal, bodyRefusal, typeRefusal, fieldsRefusal, recordRefusal}
+use Rattle.form_laws.proofs.Put.{orElse-zero}
+use Rattle.page_spec.specs.Layout.{kind, layoutFor, layout}
+use Rattle.page_spec.specs.declared.Kind.{Kind}
+use Rattle.page_spec.specs.declared.Kind.the-variants.{Refused, Unread, TableDump, PeerTable, Rib, RibGeneric, Change, Message}
+use Rattle.write_spec.specs.Only.{ribs, genericRibs, writer, only}
+
+-- a writer has its own records' layouts
+pub only-own : (n : ℕ) (other : Kind) (longest type sub : ℕ) → n ≡ writer (kind type sub) → only n other longest type sub ≡ layout longest type sub
+unfolding layout choose
+only-own n other longest type sub e = rw (e, eq-eqb (writer (kind type sub)) (writer (kind type sub)) refl)
+
+-- only the layout of the record's own type and subtype is asked
+pub refusal-own : (a b : ℕ → ℕ → Layout) (st : St) (g : Given) → a (g .type) (g .sub) ≡ b (g .type) (g .sub) → recordRefusal a st g ≡ recordRefusal b st g
+unfolding recordRefusal fieldsRefusal
+refusal-own a b st g e = rw e
+
+-- and the table in force only of a RIB record's
+plan-free : (longest : ℕ) (st : St) (k : Kind) → (writer k ≡ ribs → ⊥) → (writer k ≡ genericRibs → ⊥) → plan st (layoutFor longest k) ≡ plan noTable (layoutFor longest k)
+unfolding plan layoutFor
+plan-free longest st (Refused n p) h i = refl
+plan-free longest st (Unread micro) h i = refl
+plan-free longest st (TableDump size) h i = refl
+plan-free longest st PeerTable h i = refl
+plan-free longest st (Rib bits) h i = absurd (h refl)
+plan-free longest st RibGeneric h i = absurd (i refl)
+plan-free longest st (Change micro w) h i = refl
+plan-free longest st (Message micro w) h i = refl
+
+pub refusal-free : (longest : ℕ) (st : St) (g : Given) → (writer (kind (g .type) (g .sub)) ≡ ribs → ⊥) → (writer (kind (g .type) (g .sub)) ≡ genericRibs → ⊥)
+    → recordRefusal (layout longest) st g ≡ recordRefusal (layout longest) noTable g
+unfolding recordRefusal fieldsRefusal layout
+refusal-free longest st g h i = rw (plan-free longest st (kind (g .type) (g .sub)) h i)
+
+pub body-refusal : (l : ℕ → ℕ → Layout) (st : St) (g : Given) → recordRefusal l st g ≡ 0 → bodyRefusal (plan st (l (g .type) (g .sub))) (g .values) (g .tail) ≡ 0
+unfolding recordRefusal fieldsRefusal
+body-refusal l st g e =
+    let z0 = orElse-zero (fieldsRefusal l st g) _ e in
+    let z1 = orElse-zero (large 4 (g .stamp)) _ (z0 .0) in
+    let z2 = orElse-zero (large 2 (g .type)) _ (z1 .1) in
+    let z3 = orElse-zero (typeRefusal (l (g .type) (g .sub))) _ (z2 .1) in
+    orElse-zero (large 2 (g .sub)) _ (z3 .1) .1
+
+-- what a writer does not refuse is of its own kind
+pub own-writer : (n a p longest : ℕ) (st : St) (g : Given) → recordRefusal (only n (Refused (suc a) p) longest) st g ≡ 0 → n ≡ writer (kind (g .type) (g .sub))
+unfolding plan layoutFor bodyRefusal refusal choose
+own-writer n a p longest st g e = go (eqb (writer (kind (g .type) (g .sub))) n) refl (body-refusal (only n (Refused (suc a) p) longest) st g e)
+  where
+    go : (b : Bool) → eqb (writer (kind (g .type) (g .sub))) n ≡ b → bodyRefusal (plan st (layoutFor longest (choose b (kind (g .type) (g .sub)) (Refused (suc a) p)))) (g .values) (g .tail) ≡ 0
+        → n ≡ writer (kind (g .type) (g .sub))
+    go true t h = sym (eqb-true _ n t)
+    go false t h = absurd (omega arith)

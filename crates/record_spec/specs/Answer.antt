@@ -1,0 +1,87 @@
+-- Document 01's number, place, time and parts for each case of what reading one record shows.
+use mathlib.Core.List.{List, []}
+use Prim.Native.Nat.{ℕ, _+_, _*_}
+use lib.ListN.{take, drop}
+use Rattle.form_spec.specs.Dump.{placed}
+use Rattle.record_spec.specs.declared.Part.{Part}
+use Rattle.record_spec.specs.declared.Header.{Header}
+use Rattle.record_spec.specs.declared.Shown.{Shown}
+use Rattle.record_spec.specs.declared.Shown.the-variants.{Nothing, Refused, Good}
+use Rattle.record_spec.specs.declared.Body.{Body}
+use Rattle.record_spec.specs.declared.Body.the-variants.{Unread, TableDump, PeerTable, Rib, RibGeneric, Change, Message}
+use Rattle.record_spec.specs.declared.Table.{Table}
+use Rattle.record_spec.specs.declared.Table.the-variants.{Holds}
+use Rattle.record_spec.specs.declared.Entry.{Entry}
+use Rattle.record_spec.specs.declared.Entry.the-variants.{At, Bad}
+use Rattle.record_spec.specs.declared.Peer.{Peer}
+use Rattle.record_spec.specs.declared.Peer.the-variants as one
+
+-- what f says of the body; `else` where no record is shown
+abbrev pub ofBody : {A : Type 0} → (else : A) → (Body → A) → Shown → A
+ofBody e f Nothing = e
+ofBody e f (Refused n p) = e
+ofBody e f (Good h b) = f b
+
+abbrev pub fault : Shown → ℕ
+fault Nothing = 0
+fault (Refused n p) = n
+fault (Good h b) = 0
+
+-- zeros where no record is shown
+abbrev pub noHeader : Header
+noHeader = record { timestamp = 0; ty = 0; subtype = 0; length = 0; microseconds = 0 }
+
+abbrev pub headerOf : Shown → Header
+headerOf Nothing = noHeader
+headerOf (Refused n p) = noHeader
+headerOf (Good h b) = h
+
+abbrev pub end : Header → ℕ
+end h = 12 + h .length
+
+-- a fault's place, where the record starts at 0
+abbrev pub place : Shown → ℕ
+place Nothing = 0
+place (Refused n p) = placed 0 p
+place (Good h b) = end h
+
+-- in microseconds
+abbrev pub time : Header → ℕ
+time h = h .timestamp * 1000000 + h .microseconds
+
+-- a part, where it lies in the octets that were read
+abbrev pub within : List ℕ → Part → List ℕ
+within m p = take (p .size) (drop (p .at) m)
+
+-- the part that a body carries: unread contents, attributes, view name or BGP message; none in the others
+abbrev pub carriedIn : List ℕ → Body → List ℕ
+carriedIn m (Unread c) = within m c
+carriedIn m (TableDump r) = within m (r .attributes)
+carriedIn m (PeerTable p) = within m (p .name)
+carriedIn m (Rib r) = []
+carriedIn m (RibGeneric f r) = []
+carriedIn m (Change s w) = []
+carriedIn m (Message s b) = within m (b .message)
+
+abbrev pub carried : List ℕ → Shown → List ℕ
+carried m x = ofBody [] (carriedIn m) x
+
+-- the table in force behind a record of this body, where t was in force before: only a peer table changes it
+abbrev pub tableBehind : Table → Body → Table
+tableBehind t (Unread c) = t
+tableBehind t (TableDump r) = t
+tableBehind t (PeerTable p) = Holds (p .count)
+tableBehind t (Rib r) = t
+tableBehind t (RibGeneric f r) = t
+tableBehind t (Change s w) = t
+tableBehind t (Message s b) = t
+
+-- an entry's attributes
+abbrev pub attributesIn : List ℕ → Entry → List ℕ
+attributesIn m (At i t a n) = within m a
+attributesIn m (Bad n p) = []
+
+-- a peer's address
+abbrev pub addressIn : List ℕ → Peer → List ℕ
+addressIn m (one.Of k i a n q) = within m a
+addressIn m (one.Bad n p) = []

@@ -1,4 +1,0 @@
-pub mod Tells
-pub mod Again
-pub mod Agrees
-pub mod Forms

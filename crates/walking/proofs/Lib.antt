@@ -1,4 +1,0 @@
-pub mod Table
-pub mod Goes
-pub mod Ahead
-pub mod Demand2
