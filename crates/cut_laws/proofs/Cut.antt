@@ -224,7 +224,7 @@ less-rebody c st l r qs rs o (stays y f k e z) q = simp (length-append, length-w
 
 -- ---- a window and a list
 
-mem-append : (n : ℕ) (ms ks : List ℕ) → mem n (ms ++ ks) ≡ (mem n ms || mem n ks)
+pub mem-append : (n : ℕ) (ms ks : List ℕ) → mem n (ms ++ ks) ≡ (mem n ms || mem n ks)
 mem-append n [] ks = refl
 mem-append n (m ∷ ms) ks = go (eqb n m) (mem-append n ms ks)
   where

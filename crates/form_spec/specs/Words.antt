@@ -1,4 +1,4 @@
--- The words of a page of layouts. They stay shut in proofs of code: the rules of crate flow go by them.
+-- The words of a page of layouts. They stay shut in proofs of code: the rules of octets_laws go by them.
 use mathlib.Core.Bool.{Bool, true, false, cond}
 use mathlib.Core.List.{List}
 use Prim.Native.Nat.{ℕ}

@@ -4,6 +4,7 @@ ghost use mathlib.Core.Path.{_≡_};
 ghost use Prim.Native.Nat.{_+_, _-_, _≤_, _<_, _^_};
 ghost use lib.ListN.{length, take, drop};
 ghost use Rattle.octets_spec.specs.Over.{over};
+ghost use Rattle.octets_spec.specs.Lent.{PartOf};
 ghost use Rattle.form_spec.specs.Octets.{toBe};
 ghost use Rattle.octets_spec.specs.Be.{numAt};
 ghost use lib.Dec.{leb};
@@ -34,7 +35,7 @@ pub fn put_bytes(src: &[u8], out: &mut [u8], at: usize)
 
 // The n octets of m from `at` on; fewer where m ends before.
 pub fn part(m: &[u8], at: usize, n: usize) -> &[u8]
-    ensures { λ r. ⌜ now r ≡ take n (drop at (now (m .entry))) ⌝ }
+    ensures { λ r. ⌜ PartOf (m .entry) at n r ⌝ }
 {
     let all = m.len();
     if all < at {

@@ -1,3 +1,4 @@
 pub mod Over
 pub mod Field
 pub mod Be
+pub mod Lent

@@ -50,7 +50,7 @@ pub fn time(h: Header) -> u64
 
 // A part of the octets that were read.
 pub fn within(m: &[u8], p: Part) -> &[u8]
-    ensures { λ r. ⌜ now r ≡ answer.within (now (m .entry)) p ⌝ }
+    ensures { λ r. ⌜ answer.Lies (m .entry) p r ⌝ }
 {
     let at = p.at;
     let size = p.size;
@@ -58,7 +58,7 @@ pub fn within(m: &[u8], p: Part) -> &[u8]
 }
 
 fn carried_in(m: &[u8], b: Body) -> &[u8]
-    ensures { λ s. ⌜ now s ≡ answer.carriedIn (now (m .entry)) b ⌝ }
+    ensures { λ s. ⌜ answer.Lies (m .entry) (answer.carriedIn b) s ⌝ }
 {
     match b {
         Body::Unread(p) => within(m, p),
@@ -73,7 +73,7 @@ fn carried_in(m: &[u8], b: Body) -> &[u8]
 
 // The part that a record carries: unread contents, attributes, view name or BGP message.
 pub fn carried(m: &[u8], r: Shown) -> &[u8]
-    ensures { λ s. ⌜ now s ≡ answer.carried (now (m .entry)) r ⌝ }
+    ensures { λ s. ⌜ answer.Lies (m .entry) (answer.carried r) s ⌝ }
 {
     match r {
         Shown::Nothing => part(m, 0, 0),
@@ -99,7 +99,7 @@ pub fn table_behind(t: Table, b: Body) -> Table
 
 // An entry's attributes.
 pub fn attributes(m: &[u8], e: Entry) -> &[u8]
-    ensures { λ r. ⌜ now r ≡ answer.attributesIn (now (m .entry)) e ⌝ }
+    ensures { λ r. ⌜ answer.Lies (m .entry) (answer.attributesIn e) r ⌝ }
 {
     match e {
         Entry::At(_, _, p, _) => within(m, p),
@@ -109,7 +109,7 @@ pub fn attributes(m: &[u8], e: Entry) -> &[u8]
 
 // A peer's address.
 pub fn address(m: &[u8], p: Peer) -> &[u8]
-    ensures { λ r. ⌜ now r ≡ answer.addressIn (now (m .entry)) p ⌝ }
+    ensures { λ r. ⌜ answer.Lies (m .entry) (answer.addressIn p) r ⌝ }
 {
     match p {
         Peer::Of(_, _, a, _, _) => within(m, a),

@@ -14,3 +14,4 @@ pub mod Given
 pub mod Tails
 pub mod Written
 pub mod Fair
+pub mod ReadBack

@@ -1,5 +1,5 @@
 -- The writer of a record's kind refuses it just where the whole page does.
-use mathlib.Core.Path.{_≡_, refl, sym}
+use mathlib.Core.Path.{_≡_, refl, sym, _∙_}
 use mathlib.Core.Bool.{Bool, true, false}
 use Prim.Native.Nat.{ℕ, suc}
 use native.Mathlib.Omega.{arith}
@@ -59,3 +59,12 @@ own-writer n a p longest st g e = go (eqb (writer (kind (g .type) (g .sub))) n) 
         → n ≡ writer (kind (g .type) (g .sub))
     go true t h = sym (eqb-true _ n t)
     go false t h = absurd (omega arith)
+
+-- so a writer of other records than RIB asks for no table: what it does not refuse without one, it refuses with none
+pub own-refusal-free : (n a p longest : ℕ) (st : St) (g : Given) → (n ≡ ribs → ⊥) → (n ≡ genericRibs → ⊥) → recordRefusal (only n (Refused (suc a) p) longest) noTable g ≡ 0
+    → recordRefusal (only n (Refused (suc a) p) longest) st g ≡ 0
+own-refusal-free n a p longest st g h i e =
+    let w = own-writer n a p longest noTable g e in
+    let own-layout = only-own n (Refused (suc a) p) longest (g .type) (g .sub) w in
+    let own = only n (Refused (suc a) p) longest in
+    refusal-own own (layout longest) st g own-layout ∙ refusal-free longest st g (λ d. h (w ∙ d)) (λ d. i (w ∙ d)) ∙ sym (refusal-own own (layout longest) noTable g own-layout) ∙ e

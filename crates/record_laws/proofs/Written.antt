@@ -1,5 +1,5 @@
 -- Reading what a writer wrote shows the very values that it was given.
-use mathlib.Core.Path.{_≡_, sym, _∙_}
+use mathlib.Core.Path.{_≡_, refl, sym, _∙_}
 use mathlib.Core.List.{List, _++_}
 use Prim.Native.Nat.{ℕ, suc}
 use lib.ListN.{length, drop}
@@ -11,12 +11,12 @@ use Rattle.form_laws.proofs.Octets.{octets-drop}
 use Rattle.page_spec.specs.Layout.{layout, kind}
 use Rattle.page_spec.specs.declared.Kind.the-variants.{Refused}
 use Rattle.record_spec.specs.declared.Table.{Table}
-use Rattle.record_spec.specs.Answer.{place}
+use Rattle.record_spec.specs.Answer.{fault, place}
 use Rattle.record_spec.specs.One.{readOne}
 use Rattle.write_spec.specs.Only.{writer, only}
 use Rattle.room_spec.specs.declared.Written.the-variants as room
 use Rattle.room_laws.proofs.Room as laws
-use Rattle.write_spec.specs.Verdict.{writerAnswer, writerLeaves}
+use Rattle.write_spec.specs.Verdict.{writerAnswer, writerLeaves, Writes}
 use Rattle.record_spec.specs.Tells.{Tells}
 use Rattle.record_spec.specs.Again.{again}
 use Rattle.record_spec.specs.Agrees.{writerOf}
@@ -45,6 +45,13 @@ pub record Fair (n : ℕ) (g : Given) : Type 0 where
   pub tail : TailFor n (g .tail)
   pub form : forms (g .values) ≡ Formed n g
 
+-- what reading `held` shows, told of the table t: a record of k octets, of the kind n, with the fields of g
+pub record ReadBack (longest : ℕ) (t : Table) (held : List ℕ) (k n : ℕ) (g : Given) : Type 0 where
+  pub accepted : fault (readOne longest t held) ≡ 0
+  pub ends : place (readOne longest t held) ≡ k
+  pub whose : writerOf (readOne longest t held) ≡ n
+  pub given : again held (readOne longest t held) ≡ g
+
 module _ (longest : ℕ) (t : Table) (st : St) (tells : Tells t st) (n a p : ℕ) (g : Given) (fair : Fair n g) where
   -- a writer of one kind, which lists no other
   abbrev own : ℕ → ℕ → Layout
@@ -67,17 +74,27 @@ module _ (longest : ℕ) (t : Table) (st : St) (tells : Tells t st) (n a p : ℕ
     back : ShownBack longest g s t
     back = shows-fields longest t st tells n (Refused (suc a) p) g n-own e (fair .octets) shaped q oq
 
-    pub shows-given : (again s (readOne longest t s) ≡ g) × (place (readOne longest t s) ≡ length (octets g))
-    shows-given =
+    whose : writerOf (readOne longest t s) ≡ n
+    whose = back .same .whose ∙ rw (← (back .given .type), ← (back .given .sub)) (sym n-own)
+
+    given : again s (readOne longest t s) ≡ g
+    given =
         let h : Given = again s (readOne longest t s) in
         let y : h .type ≡ g .type = back .same .gives .type ∙ sym (back .given .type) in
         let u : h .sub ≡ g .sub = back .same .gives .sub ∙ sym (back .given .sub) in
-        let w : writerOf (readOne longest t s) ≡ n = back .same .whose ∙ rw (← (back .given .type), ← (back .given .sub)) (sym n-own) in
-        (same-given h g (back .rec) (back .same .gives) (back .given) (formed-again s (readOne longest t s) ∙ rw (w, y, u) (sym (fair .form))), back .ends)
+        same-given h g (back .rec) (back .same .gives) (back .given) (formed-again s (readOne longest t s) ∙ rw (whose, y, u) (sym (fair .form)))
 
-  -- in the buffer that the writer left
+    octets-back : ReadBack longest t s (length (octets g)) n g
+    octets-back = record { accepted = back .same .accepted; ends = back .ends; whose = whose; given = given }
+
+  -- in the buffer that a writer left: it may have been told su, where it refuses no less than in st
+  pub read-back : (su : St) → (recordRefusal own su g ≡ 0 → recordRefusal own st g ≡ 0) → (out held : List ℕ) (k : ℕ) → Octets out → Writes own su g out (room.Octets k) held
+      → ReadBack longest t held k n g
+  read-back su alike out held k oc w =
+      let z = wrote own su g out k (sym (w .0)) in
+      rw (w .1 ∙ z .left, z .size) (octets-back (alike (z .refused)) (drop (length (octets g)) out) (octets-drop (length (octets g)) out oc))
+
+  -- told of one table, reader and writer
   pub shows-written : (out : List ℕ) (k : ℕ) → Octets out → writerAnswer own st g out ≡ room.Octets k
       → (again (writerLeaves own st g out) (readOne longest t (writerLeaves own st g out)) ≡ g) × (place (readOne longest t (writerLeaves own st g out)) ≡ k)
-  shows-written out k oc e =
-      let w = wrote own st g out k e in
-      rw (w .left, w .size) (shows-given (w .refused) (drop (length (octets g)) out) (octets-drop (length (octets g)) out oc))
+  shows-written out k oc e = let z = read-back st (λ d. d) out (writerLeaves own st g out) k oc (sym e, refl) in (z .given, z .ends)

@@ -1,8 +1,10 @@
 -- Document 01's number, place, time and parts for each case of what reading one record shows.
-use mathlib.Core.List.{List, []}
+use mathlib.Core.List.{List}
+use denote.Ref.{RefT}
 use Prim.Native.Nat.{ℕ, _+_, _*_}
 use lib.ListN.{take, drop}
 use Rattle.form_spec.specs.Dump.{placed}
+use Rattle.octets_spec.specs.Lent.{PartOf}
 use Rattle.record_spec.specs.declared.Part.{Part}
 use Rattle.record_spec.specs.declared.Header.{Header}
 use Rattle.record_spec.specs.declared.Shown.{Shown}
@@ -53,18 +55,25 @@ time h = h .timestamp * 1000000 + h .microseconds
 abbrev pub within : List ℕ → Part → List ℕ
 within m p = take (p .size) (drop (p .at) m)
 
--- the part that a body carries: unread contents, attributes, view name or BGP message; none in the others
-abbrev pub carriedIn : List ℕ → Body → List ℕ
-carriedIn m (Unread c) = within m c
-carriedIn m (TableDump r) = within m (r .attributes)
-carriedIn m (PeerTable p) = within m (p .name)
-carriedIn m (Rib r) = []
-carriedIn m (RibGeneric f r) = []
-carriedIn m (Change s w) = []
-carriedIn m (Message s b) = within m (b .message)
+-- r is that part of the octets m, where it lies
+abbrev pub Lies : RefT (List ℕ) → Part → RefT (List ℕ) → Type 0
+Lies m p r = PartOf m (p .at) (p .size) r
 
-abbrev pub carried : List ℕ → Shown → List ℕ
-carried m x = ofBody [] (carriedIn m) x
+abbrev pub noPart : Part
+noPart = record { at = 0; size = 0 }
+
+-- the part that a body carries: unread contents, attributes, view name or BGP message; none in the others
+abbrev pub carriedIn : Body → Part
+carriedIn (Unread c) = c
+carriedIn (TableDump r) = r .attributes
+carriedIn (PeerTable p) = p .name
+carriedIn (Rib r) = noPart
+carriedIn (RibGeneric f r) = noPart
+carriedIn (Change s w) = noPart
+carriedIn (Message s b) = b .message
+
+abbrev pub carried : Shown → Part
+carried x = ofBody noPart carriedIn x
 
 -- the table in force behind a record of this body, where t was in force before: only a peer table changes it
 abbrev pub tableBehind : Table → Body → Table
@@ -77,11 +86,11 @@ tableBehind t (Change s w) = t
 tableBehind t (Message s b) = t
 
 -- an entry's attributes
-abbrev pub attributesIn : List ℕ → Entry → List ℕ
-attributesIn m (At i t a n) = within m a
-attributesIn m (Bad n p) = []
+abbrev pub attributesIn : Entry → Part
+attributesIn (At i t a n) = a
+attributesIn (Bad n p) = noPart
 
 -- a peer's address
-abbrev pub addressIn : List ℕ → Peer → List ℕ
-addressIn m (one.Of k i a n q) = within m a
-addressIn m (one.Bad n p) = []
+abbrev pub addressIn : Peer → Part
+addressIn (one.Of k i a n q) = a
+addressIn (one.Bad n p) = noPart

@@ -34,12 +34,13 @@ use Rattle.record_spec.specs.One.{readOne}
 use Rattle.record_spec.specs.Answer.{fault, place}
 use Rattle.room_spec.specs.declared.Written.the-variants as answer
 use Rattle.write_spec.specs.Only.{only}
-use Rattle.write_spec.specs.Verdict.{writerAnswer, writerLeaves}
+use Rattle.write_spec.specs.Verdict.{writerAnswer, writerLeaves, Writes}
 use Rattle.record_spec.specs.Tells.{Tells}
 use Rattle.record_spec.specs.Agrees.{Agrees, writerOf}
 use Rattle.record_spec.specs.Again.{again}
 use Rattle.record_laws.proofs.Written.{Fair}
 use Rattle.walk_spec.specs.Walked.{walked}
+use Rattle.cut_spec.specs.Cut.{mem}
 use Rattle.cut_spec.specs.Answer.{leftOf, cutAnswer, cutLeaves}
 use Rattle.room_laws.proofs.Room as room
 use Rattle.record_laws.proofs.One as one
@@ -49,6 +50,7 @@ use Rattle.record_laws.proofs.Written as writing
 use Rattle.walk_laws.proofs.Demand2 as dumps
 use Rattle.cut_laws.proofs.Answers as answers-of
 use Rattle.cut_laws.proofs.Demand3 as cuts
+use Rattle.cut_laws.proofs.Orders as orders
 
 -- ==== Demand 1. Any bytes may arrive, and any call may be made with them.
 --
@@ -106,11 +108,12 @@ module _ (longest : ℕ) where
         → (writerAnswer (only (writerOf x) other longest) st (again s x) out ≡ answer.Octets (place x)) × (writerLeaves (only (writerOf x) other longest) st (again s x) out ≡ take (place x) s ++ drop (place x) out)
     written-back other out h = let b = restores.writes-back longest t st told s o some good other out h in (b .answer, b .left)
 
-  -- reading what a writer did not refuse shows the fields given: `again` of what is shown is what was given (`Fair`: of the writer's own form)
-  pub read-back : (t : Table) (st : St) → Tells t st → (n a p : ℕ) (g : Given) → Fair n g → (out : List ℕ) (k : ℕ) → Octets out
-      → let own = only n (chosen.Refused (suc a) p) longest in
-      writerAnswer own st g out ≡ answer.Octets k → (again (writerLeaves own st g out) (readOne longest t (writerLeaves own st g out)) ≡ g) × (place (readOne longest t (writerLeaves own st g out)) ≡ k)
-  read-back t st told n a p g fair out k o e = writing.shows-written longest t st told n a p g fair out k o e
+  -- reading what a writer did not refuse shows its kind and the fields given; each of the seven writers, by its own parameters and its
+  -- own promise, in record_laws/proofs/ReadBack, where the reader of a record that asks for no table may be told any
+  pub read-back : (t : Table) (st : St) → Tells t st → (n a p : ℕ) (g : Given) → Fair n g → (out held : List ℕ) (k : ℕ) → Octets out
+      → Writes (only n (chosen.Refused (suc a) p) longest) st g out (answer.Octets k) held
+      → let y = readOne longest t held in (fault y ≡ 0) × (place y ≡ k) × (writerOf y ≡ n) × (again held y ≡ g)
+  read-back t st told n a p g fair out held k o w = let b = writing.read-back longest t st told n a p g fair st (λ e. e) out held k o w in (b .accepted, b .ends, b .whose, b .given)
 
   -- ==== Demand 3. A cut takes a window and a list of AS numbers; what it leaves is `leftOf`, the dump that document 01 defines.
 
@@ -129,6 +132,18 @@ module _ (longest : ℕ) where
       × (cutAnswer longest g u ks (leftOf longest f t ms d) out ≡ cutAnswer longest from to (ms ++ ks) d out)
       × (cutLeaves longest g u ks (leftOf longest f t ms d) out ≡ cutLeaves longest from to (ms ++ ks) d out)
   cut-again f t g u ms ks d out o e w = let a = cuts.again longest f t g u ms ks d out o e w in (a .bytes, a .answer, a .left)
+
+  -- where the windows do not overlap, any empty window stands for the overlap
+  pub cut-again-apart : (f t g u : ℕ) (ms ks d out : List ℕ) → Octets d → walked longest d .fault ≡ 0 → g ≤ u → min t u ≤ max f g → (e : ℕ)
+      → (leftOf longest g u ks (leftOf longest f t ms d) ≡ leftOf longest e e (ms ++ ks) d)
+      × (cutAnswer longest g u ks (leftOf longest f t ms d) out ≡ cutAnswer longest e e (ms ++ ks) d out)
+      × (cutLeaves longest g u ks (leftOf longest f t ms d) out ≡ cutLeaves longest e e (ms ++ ks) d out)
+  cut-again-apart f t g u ms ks d out o a w apart e = let c = orders.again-apart longest d out f t g u ms ks o a w apart e in (c .bytes, c .answer, c .left)
+
+  -- order and repeats of the list mean nothing: only who is on it counts
+  pub same-members-same-cut : (from to : ℕ) (ms ks d out : List ℕ) → ((n : ℕ) → mem n ms ≡ mem n ks)
+      → (leftOf longest from to ms d ≡ leftOf longest from to ks d) × (cutAnswer longest from to ms d out ≡ cutAnswer longest from to ks d out) × (cutLeaves longest from to ms d out ≡ cutLeaves longest from to ks d out)
+  same-members-same-cut from to ms ks d out h = let c = orders.same-members longest d out from to ms ks h in (c .bytes, c .answer, c .left)
 
   -- the cut of two dumps laid end to end is the two cuts laid end to end, in the buffer too
   pub cut-of-both : (from to : ℕ) (mutes a b out : List ℕ) → Octets a → Octets b → walked longest a .fault ≡ 0 → walked longest b .fault ≡ 0 → from ≤ to → length (a ++ b) ≤ length out

@@ -19,7 +19,7 @@ returns : tie.Need-returns
 returns c = rw (c .before .before .e .given .1) (c .within .ensures)
 
 returns-2 : tie.Need-returns-2
-returns-2 c = search needs
+returns-2 c = rw (c .before .enum-told .given .1) (c .part .ensures)
 
 pub attributes-spec : {M : Type 1} → statement M
 attributes-spec =

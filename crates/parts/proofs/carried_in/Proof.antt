@@ -55,13 +55,13 @@ returns-3 : tie.Need-returns-3
 returns-3 c = rw (c .before .before .b3 .given .1) (c .within3 .ensures)
 
 returns-4 : tie.Need-returns-4
-returns-4 c = search needs
+returns-4 c = rw (c .before .enum-told .given .1) (c .part .ensures)
 
 returns-5 : tie.Need-returns-5
-returns-5 c = search needs
+returns-5 c = rw (c .before .enum-told2 .given .1) (c .part2 .ensures)
 
 returns-6 : tie.Need-returns-6
-returns-6 c = search needs
+returns-6 c = rw (c .before .enum-told3 .given .1) (c .part3 .ensures)
 
 returns-7 : tie.Need-returns-7
 returns-7 c = rw (c .before .before .b4 .given .1) (c .within4 .ensures)
