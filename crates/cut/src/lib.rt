@@ -171,6 +171,7 @@ pub fn cut_with(
     left_of(dump, Window { start, end }, mutes, out, longest)
 }
 
+// The same up to the longest BGP message of today.
 pub fn cut(dump: &[u8], start: u64, end: u64, mutes: &[u32], out: &mut [u8]) -> Written
     ensures { λ r. ⌜ (r ≡ cutAnswer longestMessage start end (now (mutes .entry)) (now (dump .entry)) (now (out .entry))) × (now (out .exit) ≡ cutLeaves longestMessage start end (now (mutes .entry)) (now (dump .entry)) (now (out .entry))) ⌝ }
 {

@@ -13,18 +13,11 @@ use Rattle.walk_spec.specs.Walked.{walked}
 use Rattle.cut_spec.specs.Cut.{Cut, mem, cutting, cut}
 use Rattle.cut_spec.specs.Answer.{leftOf, cutAnswer, cutLeaves}
 use Rattle.cut_laws.proofs.Cut.{mem-append}
-use Rattle.cut_laws.proofs.Demand3.{again}
-
--- ---- the same answer, and the same octets in the buffer
+use Rattle.cut_laws.proofs.Demand3.{Same, again}
 
 module _ (longest : ℕ) (d out : List ℕ) where
-  pub record Alike (from to : ℕ) (ms : List ℕ) (start end : ℕ) (ks : List ℕ) : Type 0 where
-    pub bytes : leftOf longest from to ms d ≡ leftOf longest start end ks d
-    pub answer : cutAnswer longest from to ms d out ≡ cutAnswer longest start end ks d out
-    pub left : cutLeaves longest from to ms d out ≡ cutLeaves longest start end ks d out
-
   -- orders with the same members and times, neither or both of them backward
-  alike : (from to : ℕ) (ms : List ℕ) (start end : ℕ) (ks : List ℕ) → ltb to from ≡ ltb end start → cutting from to ms ≡ cutting start end ks → Alike from to ms start end ks
+  alike : (from to : ℕ) (ms : List ℕ) (start end : ℕ) (ks : List ℕ) → ltb to from ≡ ltb end start → cutting from to ms ≡ cutting start end ks → Same longest out from to ms d start end ks d
   unfolding cutAnswer cutLeaves
   alike from to ms start end ks w e =
       let b : leftOf longest from to ms d ≡ leftOf longest start end ks d = ap (λ (c : Cut). cut (layout longest) c d) e in
@@ -33,7 +26,7 @@ module _ (longest : ℕ) (d out : List ℕ) where
   -- ---- lists
 
   -- order and repeats mean nothing: only who is on the list counts
-  pub same-members : (from to : ℕ) (ms ks : List ℕ) → ((n : ℕ) → mem n ms ≡ mem n ks) → Alike from to ms from to ks
+  pub same-members : (from to : ℕ) (ms ks : List ℕ) → ((n : ℕ) → mem n ms ≡ mem n ks) → Same longest out from to ms d from to ks d
   same-members from to ms ks h = alike from to ms from to ks refl (ap (λ (g : ℕ → Bool). record { gone = g; inside = λ t. leb from t && ltb t to }) (fun-ext h))
 
   -- ---- windows
@@ -46,19 +39,15 @@ module _ (longest : ℕ) (d out : List ℕ) where
       go true e = le-ltb t m (leb-true m t e)
       go false e = refl
 
-  pub empty-windows : (m e : ℕ) (ms : List ℕ) → Alike m m ms e e ms
+  pub empty-windows : (m e : ℕ) (ms : List ℕ) → Same longest out m m ms d e e ms d
   empty-windows m e ms =
       alike m m ms e e ms (le-ltb m m (omega arith) ∙ sym (le-ltb e e (omega arith)))
       (ap (λ (i : ℕ → Bool). record { gone = λ n. mem n ms; inside = i }) (fun-ext (λ t. none-inside m t ∙ sym (none-inside e t))))
 
   -- ---- a cut of a cut whose windows do not overlap is a cut with any empty window
 
-  pub record Apart (f t g u e : ℕ) (ms ks : List ℕ) : Type 0 where
-    pub bytes : leftOf longest g u ks (leftOf longest f t ms d) ≡ leftOf longest e e (ms ++ ks) d
-    pub answer : cutAnswer longest g u ks (leftOf longest f t ms d) out ≡ cutAnswer longest e e (ms ++ ks) d out
-    pub left : cutLeaves longest g u ks (leftOf longest f t ms d) out ≡ cutLeaves longest e e (ms ++ ks) d out
-
-  pub again-apart : (f t g u : ℕ) (ms ks : List ℕ) → Octets d → walked longest d .fault ≡ 0 → g ≤ u → min t u ≤ max f g → (e : ℕ) → Apart f t g u e ms ks
+  pub again-apart : (f t g u : ℕ) (ms ks : List ℕ) → Octets d → walked longest d .fault ≡ 0 → g ≤ u → min t u ≤ max f g → (e : ℕ)
+      → Same longest out g u ks (leftOf longest f t ms d) e e (ms ++ ks) d
   again-apart f t g u ms ks o a w apart e =
       let z : max (max f g) (min t u) ≡ max f g = omega arith in
       let once = again longest f t g u ms ks d out o a w in

@@ -169,7 +169,7 @@ pub fn read_with(s: &[u8], t: Table, longest: u64) -> Shown
     whole_record(&s[0..end], t, longest)
 }
 
-// The same under RFC 4271's limit.
+// The same up to the longest BGP message of today.
 pub fn read_record(s: &[u8], t: Table) -> Shown
     ensures { λ r. ⌜ r ≡ readOne longestMessage t (now (s .entry)) ⌝ }
 {

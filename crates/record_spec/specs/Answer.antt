@@ -1,4 +1,4 @@
--- Document 01's number, place, time and parts for each case of what reading one record shows.
+-- Document 01's number, place, time and parts for each case of what reading one record shows, and the table in force behind it.
 use mathlib.Core.List.{List}
 use denote.Ref.{RefT}
 use Prim.Native.Nat.{ℕ, _+_, _*_}
