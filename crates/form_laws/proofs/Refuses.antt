@@ -16,6 +16,7 @@ use Rattle.form_spec.specs.Shape.{Layout, refuse, fields, unread, table, entrie
 use Rattle.form_spec.specs.Record.{Rec, head, readRec}
 use Rattle.form_spec.specs.Put.{Value, digits, bytes, spelled, orElse, misfit, refusal, lay}
 use Rattle.form_spec.specs.Put.{Tail, nothing, carried, items, tailed, faultOf, itemsRefusal, bodyRefusal, Given, message, octets, typeRefusal, fieldsRefusal, recordRefusal}
+use Rattle.form_spec.specs.Found.{faultNumber}
 use Rattle.form_spec.specs.Gives.{FitOne, Fit}
 use Rattle.form_spec.specs.Aligned.{Full, Aligned, Counted, AlignedBody}
 use Rattle.form_laws.proofs.Octets.{length-toBe, be-toBe}
@@ -131,11 +132,6 @@ refuses-as-reader (many f g) at vs t h s =
     ∙ reads-as-bind (refusal f vs) (lay vs) (tailed t) _ (read f at (join (lay vs) ++ tailed t)) (full-read f at vs (tailed t) h (s .0))
 
 -- ---- records
-
--- a fault's number, or 0, whatever is left
-abbrev pub faultNumber : {A : Type 0} → Out A → ℕ
-faultNumber (bad n p) = n
-faultNumber (good a r) = 0
 
 -- a body leaves nothing
 abbrev Spent : Out Body → Type 0

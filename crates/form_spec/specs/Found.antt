@@ -4,6 +4,11 @@ use Prim.Native.Nat.{ℕ}
 use Rattle.form_spec.specs.Fmt.{Out, bad, good, Fmt, read}
 use Rattle.form_spec.specs.Body.{readN}
 
+-- a fault's number, or 0, whatever is left
+abbrev pub faultNumber : {A : Type 0} → Out A → ℕ
+faultNumber (bad n p) = n
+faultNumber (good a r) = 0
+
 -- no fault
 abbrev pub Accepted : {A : Type 0} → Out A → Type 0
 Accepted (bad n p) = ⊥

@@ -94,3 +94,21 @@ attributesIn (Bad n p) = noPart
 abbrev pub addressIn : Peer → Part
 addressIn (one.Of k i a n q) = a
 addressIn (one.Bad n p) = noPart
+
+-- ---- an entry, or a peer: its number, and where it ends; a fault's place
+
+abbrev pub entryFault : Entry → ℕ
+entryFault (At i t a n) = 0
+entryFault (Bad n p) = n
+
+abbrev pub entryEnd : Entry → ℕ
+entryEnd (At i t a n) = n
+entryEnd (Bad n p) = p
+
+abbrev pub peerFault : Peer → ℕ
+peerFault (one.Of k i a n q) = 0
+peerFault (one.Bad n p) = n
+
+abbrev pub peerEnd : Peer → ℕ
+peerEnd (one.Of k i a n q) = q
+peerEnd (one.Bad n p) = p

@@ -5,3 +5,5 @@ pub mod Again
 pub mod Agrees
 pub mod Fields
 pub mod Table
+pub mod Reads
+pub mod Items

@@ -9,7 +9,7 @@ use lib.ListN.{length, drop}
 use borrow.Author.Tests.{lt-ltb, le-ltb}
 use Rattle.form_spec.specs.Words.{choose}
 use Rattle.octets_spec.specs.Over.{over}
-use Rattle.room_spec.specs.Room.{written, holds}
+use Rattle.room_spec.specs.Room.{written, holds, Answers}
 use Rattle.room_spec.specs.declared.Written.{Written}
 use Rattle.room_spec.specs.declared.Written.the-variants.{Octets, Refused}
 
@@ -27,6 +27,19 @@ module _ (fault place : ℕ) (xs out : List ℕ) where
   -- the answer a, and ys in out, are right
   abbrev pub Right : (a : Written) (ys : List ℕ) → Type 0
   Right a ys = (a ≡ written fault place xs out) × (ys ≡ holds fault xs out)
+
+  -- the right answer has document 01's number, place and count
+  pub answers : Answers fault place xs out (written fault place xs out)
+  unfolding written choose
+  answers = go fault
+    where
+      room : (b : Bool) → ltb (length out) (length xs) ≡ b → Answers 0 place xs out (choose b (Refused 15 0) (Octets (length xs)))
+      room true e = rw e (refl, refl, refl)
+      room false e = rw e (refl, refl, refl)
+
+      go : (n : ℕ) → Answers n place xs out (written n place xs out)
+      go zero = room (ltb (length out) (length xs)) refl
+      go (suc n) = (refl, refl, refl)
 
   -- there is a fault
   pub faulty : (fault ≡ 0 → ⊥) → Right (Refused fault place) out

@@ -4,7 +4,10 @@ use mathlib.Core.List.{List, _++_}
 use Prim.Native.Nat.{ℕ, zero, suc}
 use lib.Dec.{ltb}
 use lib.ListN.{length, drop}
+use mathlib.Core.Path.{_≡_}
+use Rattle.form_spec.specs.Put.{orElse}
 use Rattle.form_spec.specs.Words.{choose}
+use Rattle.room_spec.specs.Answer as answer
 use Rattle.room_spec.specs.declared.Written.{Written}
 use Rattle.room_spec.specs.declared.Written.the-variants.{Octets, Refused}
 
@@ -17,3 +20,23 @@ written (suc n) p xs out = Refused (suc n) p
 unfoldable pub holds : (fault : ℕ) (xs out : List ℕ) → List ℕ
 holds zero xs out = choose (ltb (length out) (length xs)) out (xs ++ drop (length xs) out)
 holds (suc n) xs out = out
+
+-- ---- the same by document 01's numbers
+
+-- the number: the fault, then 15 where xs does not go into out
+abbrev pub numberFor : (fault : ℕ) (xs out : List ℕ) → ℕ
+numberFor n xs out = orElse n (choose (ltb (length out) (length xs)) 15 0)
+
+-- the place is the fault's; 15 and success have 0
+abbrev pub placeFor : (fault place : ℕ) → ℕ
+placeFor zero p = 0
+placeFor (suc n) p = p
+
+-- the octets written: none where a number is answered
+abbrev pub countFor : (number : ℕ) (xs : List ℕ) → ℕ
+countFor zero xs = length xs
+countFor (suc n) xs = 0
+
+abbrev pub Answers : (fault place : ℕ) (xs out : List ℕ) → Written → Type 0
+Answers n p xs out r =
+    (answer.fault r ≡ numberFor n xs out) × (answer.place r ≡ placeFor n p) × (answer.count r ≡ countFor (numberFor n xs out) xs)

@@ -21,7 +21,7 @@ use Rattle.write_spec.specs.declared.Time.{Time}
 use Rattle.write_spec.specs.declared.Time.the-variants.{Seconds, Micro}
 use Rattle.room_spec.specs.declared.Written.{Written}
 use Rattle.room_spec.specs.declared.Written.the-variants.{Octets, Refused}
-use Rattle.room_laws.proofs.Room.{Right, faulty, fits-laid, long}
+use Rattle.room_laws.proofs.Room.{Right, answers, faulty, fits-laid, long}
 use Rattle.write_laws.proofs.Sums.{cap}
 
 length-octets : (g : Given) → length (octets g) ≡ 12 + length (message g)
@@ -73,6 +73,10 @@ unfolding verdictOf
 refused-not zero size room x h e = e
 refused-not (suc n) size room x h e = absurd (omega arith)
 
+-- the right answer and buffer are what a writer promises
+writes : (layout : ℕ → ℕ → Layout) (st : St) (g : Given) (out k : List ℕ) (v : Written) → v ≡ writerAnswer layout st g out → k ≡ writerLeaves layout st g out → Writes layout st g out v k
+writes layout st g out k v e f = (e, f, rw e (answers (recordRefusal layout st g) 0 (octets g) out))
+
 -- ---- what the writers use: n is the number for the fields, and size the message's length as it is added up
 
 -- v says that the record goes into out, with size as its Length
@@ -90,7 +94,7 @@ module _ (layout : ℕ → ℕ → Layout) (st : St) (g : Given) (out : List ℕ
   -- a refusal: the answer is right, and so is the buffer as it was
   pub refuses : (k p : ℕ) → v ≡ Refused k p → Writes layout st g out v out
   unfolding recordRefusal
-  refuses k p e = let s = rw e at said in (e ∙ s .0, s .1)
+  refuses k p e = let s = rw e at said in writes layout st g out out v (e ∙ s .0) (s .1)
 
   pub goes : (k : ℕ) → v ≡ Octets k → Goes layout st g out size v
   unfolding recordRefusal
@@ -110,7 +114,7 @@ laid g out l k size e d z h =
 -- the header is laid, and then the message behind it
 pub done : (layout : ℕ → ℕ → Layout) (st : St) (g : Given) (out l k : List ℕ) (size : ℕ) (v : Written) → Goes layout st g out size v
     → l ≡ over out 0 (toBe 4 (g .stamp) ++ (toBe 2 (g .type) ++ (toBe 2 (g .sub) ++ toBe 4 size))) → k ≡ over l 12 (message g) → Writes layout st g out v k
-done layout st g out l k size v f e d = (f .answer, laid g out l k size e d (f .exact) (f .space) ∙ f .left)
+done layout st g out l k size v f e d = writes layout st g out k v (f .answer) (laid g out l k size e d (f .exact) (f .space) ∙ f .left)
 
 -- the microseconds' octets
 pub micros-long : (t : Time) → length (join (lay (micros t))) ≡ microSize t

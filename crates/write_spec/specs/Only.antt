@@ -1,7 +1,10 @@
 -- Each writer writes the records of one layout: a Subtype that has another is not listed to it (4), and to the writer of unread contents
 -- such a Type is not (3).
+use mathlib.Core.Path.{_≡_}
+use mathlib.Core.Logic.{_⊎_}
 use Prim.Native.Nat.{ℕ, _+_}
 use lib.Dec.{eqb}
+use Rattle.form_spec.specs.Put.{Given}
 use Rattle.form_spec.specs.Shape.{Layout}
 use Rattle.form_spec.specs.Words.{choose}
 use Rattle.page_spec.specs.Layout.{kind, layoutFor, unlisted}
@@ -44,6 +47,10 @@ writer (Message micro w) = messages
 -- the layouts of one writer; `longest` counts the octets of the longest BGP message
 abbrev pub only : (writes : ℕ) (other : Kind) (longest type sub : ℕ) → Layout
 only n other longest type sub = layoutFor longest (choose (eqb (writer (kind type sub)) n) (kind type sub) other)
+
+-- a record of the writer's own, or one that the reader refuses as the writer does
+abbrev pub Own : (writes : ℕ) (other : Kind) → Given → Type 0
+Own n other g = (writer (kind (g .type) (g .sub)) ≡ n) ⊎ (kind (g .type) (g .sub) ≡ other)
 
 abbrev pub onlySub : (writes longest type sub : ℕ) → Layout
 onlySub n = only n unlisted

@@ -7,7 +7,7 @@ use lib.Dec.{ltb}
 use Rattle.form_spec.specs.Put.{Given, octets, recordRefusal}
 use Rattle.form_spec.specs.Shape.{Layout, St}
 use Rattle.form_spec.specs.Words.{choose}
-use Rattle.room_spec.specs.Room.{written, holds}
+use Rattle.room_spec.specs.Room.{written, holds, Answers}
 use Rattle.room_spec.specs.declared.Written.{Written}
 use Rattle.room_spec.specs.declared.Written.the-variants.{Octets, Refused}
 
@@ -18,9 +18,9 @@ writerAnswer layout st g out = written (recordRefusal layout st g) 0 (octets g) 
 abbrev pub writerLeaves : (layout : ℕ → ℕ → Layout) (st : St) (g : Given) (out : List ℕ) → List ℕ
 writerLeaves layout st g out = holds (recordRefusal layout st g) (octets g) out
 
--- a writer's answer r, and what its buffer, which was out, holds then
+-- a writer's answer r, what its buffer, which was out, holds then, and the answer's number, place and count
 abbrev pub Writes : (layout : ℕ → ℕ → Layout) (st : St) (g : Given) (out : List ℕ) (r : Written) (holding : List ℕ) → Type 0
-Writes layout st g out r holding = (r ≡ writerAnswer layout st g out) × (holding ≡ writerLeaves layout st g out)
+Writes layout st g out r holding = (r ≡ writerAnswer layout st g out) × (holding ≡ writerLeaves layout st g out) × Answers (recordRefusal layout st g) 0 (octets g) out r
 
 -- ---- the same by numbers, as code has them
 
