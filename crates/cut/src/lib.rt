@@ -10,7 +10,7 @@ ghost use Rattle.form_spec.specs.Dump.{Splits};
 ghost use Rattle.page_spec.specs.Bgp4mp.{longestMessage};
 ghost use Rattle.page_spec.specs.Layout.{layout};
 ghost use Rattle.cut_spec.specs.Laid.{laid};
-ghost use Rattle.cut_spec.specs.Answer.{leftOf, cutAnswer, cutLeaves};
+ghost use Rattle.cut_spec.specs.Answer.{leftOf, Cuts};
 ghost use Rattle.room_spec.specs.Room.{written, holds};
 ghost use Rattle.look_spec.specs.Sort.{sortOf, isTable};
 ghost use Rattle.cut.specs.State.{stateTold, shownAt, recAt};
@@ -157,7 +157,7 @@ pub fn cut_with(
     out: &mut [u8],
     longest: u64,
 ) -> Written
-    ensures { λ r. ⌜ (r ≡ cutAnswer longest start end (now (mutes .entry)) (now (dump .entry)) (now (out .entry))) × (now (out .exit) ≡ cutLeaves longest start end (now (mutes .entry)) (now (dump .entry)) (now (out .entry))) ⌝ }
+    ensures { λ r. ⌜ Cuts longest start end (now (mutes .entry)) (now (dump .entry)) (now (out .entry)) r (now (out .exit)) ⌝ }
 {
     if end < start {
         return Written::Refused(14, 0);
@@ -173,7 +173,7 @@ pub fn cut_with(
 
 // The same up to the longest BGP message of today.
 pub fn cut(dump: &[u8], start: u64, end: u64, mutes: &[u32], out: &mut [u8]) -> Written
-    ensures { λ r. ⌜ (r ≡ cutAnswer longestMessage start end (now (mutes .entry)) (now (dump .entry)) (now (out .entry))) × (now (out .exit) ≡ cutLeaves longestMessage start end (now (mutes .entry)) (now (dump .entry)) (now (out .entry))) ⌝ }
+    ensures { λ r. ⌜ Cuts longestMessage start end (now (mutes .entry)) (now (dump .entry)) (now (out .entry)) r (now (out .exit)) ⌝ }
 {
     cut_with(dump, start, end, mutes, out, LONGEST_MESSAGE)
 }

@@ -8,7 +8,7 @@ use Rattle.record_spec.specs.declared.Entry.{Entry}
 use Rattle.record_spec.specs.declared.Entry.the-variants as entries
 use Rattle.walk_spec.specs.declared.Walked.{Walked}
 use Rattle.room_spec.specs.declared.Written.{Written}
-use Rattle.room_spec.specs.declared.Written.the-variants as room
+use Rattle.room_spec.specs.Answer as written
 use Rattle.dagsumilat_spec.specs.declared.RecordAnswer.{RecordAnswer}
 
 -- words laid over an array, from the i-th on
@@ -25,8 +25,7 @@ checkWords a w = words a (w .fault ∷ w .place ∷ w .records ∷ [])
 
 -- fault, place, octets written
 abbrev pub cutWords : (array : List ℕ) → Written → List ℕ
-cutWords a (room.Octets n) = words a (0 ∷ 0 ∷ n ∷ [])
-cutWords a (room.Refused n p) = words a (n ∷ p ∷ 0 ∷ [])
+cutWords a w = words a (written.fault w ∷ written.place w ∷ written.count w ∷ [])
 
 -- fault, place, table, time, type, subtype, length, peer, items, count
 abbrev pub recordWords : (array : List ℕ) → RecordAnswer → List ℕ
