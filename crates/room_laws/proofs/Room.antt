@@ -1,5 +1,5 @@
 -- The ways that a call answers for lent room, and when each is given.
-use mathlib.Core.Path.{_≡_, refl}
+use mathlib.Core.Path.{_≡_, refl, sym, _∙_}
 use mathlib.Core.Bool.{Bool, true, false}
 use mathlib.Core.List.{List, _++_}
 use Prim.Native.Nat.{ℕ, zero, suc, _≤_, _<_}
@@ -9,6 +9,7 @@ use lib.ListN.{length, drop}
 use borrow.Author.Tests.{lt-ltb, le-ltb}
 use Rattle.form_spec.specs.Words.{choose}
 use Rattle.octets_spec.specs.Over.{over}
+use Rattle.room_spec.specs.Answer as answer
 use Rattle.room_spec.specs.Room.{written, holds, Answers}
 use Rattle.room_spec.specs.declared.Written.{Written}
 use Rattle.room_spec.specs.declared.Written.the-variants.{Octets, Refused}
@@ -91,3 +92,8 @@ module _ (fault place : ℕ) (xs out : List ℕ) where
       go : (m : ℕ) → written m place xs out ≡ Refused n p → holds m xs out ≡ out
       go zero d = room (ltb (length out) (length xs)) d
       go (suc m) d = refl
+
+  -- a call that answers a number reports no octets, and out is as it was
+  pub refused-nothing : (a : Written) (ys : List ℕ) → Right a ys → (answer.fault a ≡ 0 → ⊥) → (answer.count a ≡ 0) × (ys ≡ out)
+  refused-nothing (Octets k) ys r h = absurd (h refl)
+  refused-nothing (Refused n p) ys r h = (refl, r .1 ∙ untouched n p (sym (r .0)))

@@ -1,8 +1,8 @@
 -- The user's three demands as theorems about what the functions promise, each one line to the crate that proves it.
 --
--- A promise is an equation: `walk::walk` answers `walked`, `record::read_record` shows `readOne`, a writer answers `writerAnswer` and leaves
--- `writerLeaves` in its buffer, `cut::cut` answers `cutAnswer` and leaves `cutLeaves`. So what is said here of those definitions holds of
--- every call. Octets are numbers below 256; `longest` counts the octets of the longest BGP message, and the public functions take
+-- A promise is an equation: `walk::walk` answers `walked`, `walk::step_at` `stepAt` (in `Steps`), `record::read_record` shows `readOne` (in
+-- `Reads`), a writer answers `writerAnswer` and leaves `writerLeaves` in its buffer (in `Writes`), `cut::cut` answers `cutAnswer` and leaves
+-- `cutLeaves` (in `Cuts`). So what is said here of those definitions holds of every call. Octets are numbers below 256; `longest` counts the octets of the longest BGP message, and the public functions take
 -- `longestMessage` for it.
 --
 -- The words, and where they are defined:
@@ -14,7 +14,7 @@
 --   again          record_spec/specs/Again   what is shown, handed to a writer
 --   Fair           record_laws/proofs/Written  fields of the form that a writer takes
 --   leftOf         cut_spec/specs/Answer     what is left of a dump, by `cut` of cut_spec/specs/Cut
-use mathlib.Core.Path.{_≡_}
+use mathlib.Core.Path.{_≡_, sym, _∙_}
 use mathlib.Core.Logic.{_↔_}
 use mathlib.Core.List.{List, [], _++_}
 use Prim.Native.Nat.{ℕ, suc, _+_, _≤_, _<_, min, max}
@@ -32,6 +32,9 @@ use Rattle.record_spec.specs.declared.Shown.{Shown}
 use Rattle.record_spec.specs.declared.Shown.the-variants.{Nothing}
 use Rattle.record_spec.specs.One.{readOne}
 use Rattle.record_spec.specs.Answer.{fault, place}
+use Rattle.record_spec.specs.Reads.{Reads}
+use Rattle.room_spec.specs.Answer as written
+use Rattle.room_spec.specs.declared.Written.{Written}
 use Rattle.room_spec.specs.declared.Written.the-variants as answer
 use Rattle.write_spec.specs.Only.{only}
 use Rattle.write_spec.specs.Verdict.{writerAnswer, writerLeaves, Writes}
@@ -40,14 +43,19 @@ use Rattle.record_spec.specs.Agrees.{Agrees, writerOf}
 use Rattle.record_spec.specs.Again.{again}
 use Rattle.record_laws.proofs.Written.{Fair}
 use Rattle.walk_spec.specs.Walked.{walked}
+use Rattle.walk_spec.specs.Steps.{stepAt}
+use Rattle.walk_spec.specs.Answer.{Steps}
+use Rattle.walk_spec.specs.declared.Step.{Step}
 use Rattle.cut_spec.specs.Cut.{mem}
-use Rattle.cut_spec.specs.Answer.{leftOf, cutAnswer, cutLeaves}
+use Rattle.cut_spec.specs.Answer.{leftOf, cutAnswer, cutLeaves, Cuts}
 use Rattle.room_laws.proofs.Room as room
 use Rattle.record_laws.proofs.One as one
+use Rattle.record_laws.proofs.Numbers as numbers
 use Rattle.record_laws.proofs.Accepts as accepts
 use Rattle.record_laws.proofs.Restores as restores
 use Rattle.record_laws.proofs.Written as writing
 use Rattle.walk_laws.proofs.Demand2 as dumps
+use Rattle.walk_laws.proofs.Steps as steps
 use Rattle.cut_laws.proofs.Answers as answers-of
 use Rattle.cut_laws.proofs.Demand3 as cuts
 use Rattle.cut_laws.proofs.Orders as orders
@@ -57,18 +65,27 @@ use Rattle.cut_laws.proofs.Orders as orders
 -- That the work ends and nothing undefined happens is what every crate's check proves of every function; the public ones ask nothing of
 -- their caller. What is left to say is that a refusal has a number and a place, and touches nothing.
 
--- a writer that refuses leaves its buffer as it was
-pub refused-writer-touches-nothing : (lay : ℕ → ℕ → Layout) (st : St) (g : Given) (out : List ℕ) (n p : ℕ) → writerAnswer lay st g out ≡ answer.Refused n p → writerLeaves lay st g out ≡ out
-refused-writer-touches-nothing lay st g out n p e = room.untouched (recordRefusal lay st g) 0 (octets g) out n p e
+-- a writer that refuses reports no octets written, and leaves its buffer as it was
+pub refused-writer-touches-nothing : (lay : ℕ → ℕ → Layout) (st : St) (g : Given) (out : List ℕ) (r : Written) (held : List ℕ) → Writes lay st g out r held
+    → (written.fault r ≡ 0 → ⊥) → (written.count r ≡ 0) × (held ≡ out)
+refused-writer-touches-nothing lay st g out r held w h = room.refused-nothing (recordRefusal lay st g) 0 (octets g) out r held (w .0, w .1) h
 
 module _ (longest : ℕ) where
   -- so does a cut
-  pub refused-cut-touches-nothing : (from to : ℕ) (mutes d out : List ℕ) (n p : ℕ) → cutAnswer longest from to mutes d out ≡ answer.Refused n p → cutLeaves longest from to mutes d out ≡ out
-  refused-cut-touches-nothing from to mutes d out n p e = answers-of.refused-untouched longest from to mutes d out n p e
+  pub refused-cut-touches-nothing : (from to : ℕ) (mutes d out : List ℕ) (r : Written) (held : List ℕ) → Cuts longest from to mutes d out r held
+      → (written.fault r ≡ 0 → ⊥) → (written.count r ≡ 0) × (held ≡ out)
+  refused-cut-touches-nothing from to mutes d out r held c h = answers-of.refused-nothing longest from to mutes d out r held c h
 
   -- no octets are no record, and no fault
   pub nothing-is-no-fault : (t : Table) → readOne longest t [] ≡ Nothing
   nothing-is-no-fault t = accepts.no-octets longest t
+
+  -- what reading one record and what a step answers has the number and the place that the page of layouts gives
+  pub record-has-number-and-place : (t : Table) (s : List ℕ) → Octets s → Reads longest t s (readOne longest t s)
+  record-has-number-and-place t s o = numbers.reads longest t s o
+
+  pub step-has-number-and-place : (t : Table) (d : List ℕ) (at : ℕ) → Octets d → Steps longest t d at (stepAt longest t d at)
+  step-has-number-and-place t d at o = steps.steps longest t d at o
 
   -- reading one record refuses it with the number and the octet that the page of layouts gives, or shows its very fields
   pub fault-has-number-and-place : (t : Table) (st : St) → Tells t st → (s : List ℕ) → Octets s → 0 < length s → Agrees longest s (readRec (layout longest) st 0 s) (readOne longest t s)
@@ -153,3 +170,17 @@ module _ (longest : ℕ) where
       (leftOf longest from to mutes (a ++ b) ≡ first ++ second) × (cutAnswer longest from to mutes (a ++ b) out ≡ answer.Octets (length first + length second))
       × (take (length first) held ≡ first) × (take (length second) (drop (length first) held) ≡ second)
   cut-of-both from to mutes a b out p q e f w h = let c = cuts.both longest from to mutes a b out p q e f w h in (c .bytes, c .answer, c .first, c .second)
+
+  -- ==== No second answer: whatever two calls with the same input answer by their promises, and leave in a lent buffer, is the same.
+
+  pub one-reading : (t : Table) (s : List ℕ) (x y : Shown) → Reads longest t s x → Reads longest t s y → x ≡ y
+  one-reading t s x y a b = a .0 ∙ sym (b .0)
+
+  pub one-step : (t : Table) (d : List ℕ) (at : ℕ) (x y : Step) → Steps longest t d at x → Steps longest t d at y → x ≡ y
+  one-step t d at x y a b = a .0 ∙ sym (b .0)
+
+  pub one-cut : (from to : ℕ) (mutes d out : List ℕ) (r q : Written) (xs ys : List ℕ) → Cuts longest from to mutes d out r xs → Cuts longest from to mutes d out q ys → (r ≡ q) × (xs ≡ ys)
+  one-cut from to mutes d out r q xs ys a b = (a .0 ∙ sym (b .0), a .1 ∙ sym (b .1))
+
+  pub one-writing : (lay : ℕ → ℕ → Layout) (st : St) (g : Given) (out : List ℕ) (r q : Written) (xs ys : List ℕ) → Writes lay st g out r xs → Writes lay st g out q ys → (r ≡ q) × (xs ≡ ys)
+  one-writing lay st g out r q xs ys a b = (a .0 ∙ sym (b .0), a .1 ∙ sym (b .1))
