@@ -10,7 +10,8 @@ use lib.Seq.{drop-drop, length-take-le}
 use lib.Dec.{ltb, eqb}
 use borrow.Author.Tests.{ltb-true, ltb-false, lt-ltb, le-ltb}
 use Rattle.form_spec.specs.Octets.{be}
-use Rattle.form_spec.specs.Fmt.{Out, bad, good, bind, refuseIf, Fmt, end, test, field, read, join, overAt}
+use Rattle.form_spec.specs.Fmt.{Out, bad, good, bind, refuseIf, Fmt, end, test, field, read, Fits, join, overAt}
+use Rattle.form_laws.proofs.Fmt.{complete}
 use Rattle.form_spec.specs.Pass.{Seen, note, placeOf, sizeOf, fieldOctets, pass, _⨾_, afterOf}
 
 -- the fields of a format that were read from offset i on
@@ -56,6 +57,14 @@ module _ {A : Type 0} where
           let s : i + l ≤ length m = ltb-false _ _ e in
           let g : l ≤ length (drop i m) = rw length-drop (omega arith) in
           rw (le-ltb _ _ g, drop-drop) (r s ∙ outcome-keep to fault x b i l k (take l (drop i m)) (read (k (take l (drop i m))) (i + l) (drop (i + l) m)) (length-take-le l (drop i m) g))
+
+  -- where the fields of the format stand, there is no fault
+  pub pass-fits : (to : List Seen → ℕ → ℕ → A) (fault : ℕ → ℕ → A) (f : Fmt) (m : List ℕ) (i : ℕ) (cs : List (List ℕ)) (r : List ℕ) → i ≤ length m → Fits f cs → join cs ++ r ≡ drop i m
+      → pass to fault f m i ≡ to (seen f i cs) (i + length (join cs)) (i + length (join cs) - overAt f cs)
+  unfolding outcome
+  pass-fits to fault f m i cs r h fit e =
+      let o : read f i (drop i m) ≡ good cs r = rw (← e) (complete f i cs r fit) in
+      pass-read to fault f m i h ∙ ap (outcome to fault f i) o
 
   -- one format after another
   pub pass-then : (to : List Seen → ℕ → ℕ → A) (fault : ℕ → ℕ → A) (f g : Fmt) (m : List ℕ) (i : ℕ)

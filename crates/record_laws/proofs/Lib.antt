@@ -6,6 +6,11 @@ pub mod Behind
 pub mod Unread
 pub mod Tables
 pub mod One
+pub mod Rest
+pub mod KindBy
+pub mod Going
+pub mod Item
+pub mod Items
 pub mod Accepts
 pub mod Only
 pub mod Restores
