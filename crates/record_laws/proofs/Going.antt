@@ -1,5 +1,5 @@
 -- Going from item to item, where items of one format stand, shows just them.
-use mathlib.Core.Path.{_≡_, refl, sym, ap, ap₂, _∙_}
+use mathlib.Core.Path.{_≡_, refl, sym, ap, ap₂, _∙_, subst⁻¹}
 use mathlib.Core.List.{List, [], _∷_, _++_, append-assoc}
 use Prim.Native.Nat.{ℕ, _+_, _-_, _≤_}
 use native.Mathlib.Omega.{arith}
@@ -8,7 +8,7 @@ use lib.Seq.{drop-drop, take-append-seam}
 use Rattle.form_spec.specs.Fmt.{Fmt, Fits, join}
 use Rattle.form_spec.specs.Body.{joins, AllFits}
 use Rattle.form_laws.proofs.Found.{Here}
-use Rattle.record_spec.specs.Items.{met, metEnd, standing, Meets}
+use Rattle.record_spec.specs.Items.{met, metEnd, standing, Each, Meets}
 use Rattle.record_laws.proofs.Parts.{rest-here}
 
 -- the n items its of a format stand in m, from `at` to `stop`
@@ -46,3 +46,13 @@ module _ {A : Type 0} (m : List ℕ) (f : Fmt) (one : ℕ → A) (end : A → �
       let e : joins its ++ s .rest ≡ drop at m = s .here .lie in
       let g = going its (s .rest) at (omega (arith, s .ends, s .inside)) (s .here .fits) e in
       rw (← (s .here .many), ← (s .ends)) (record { all = g .0; ends = g .1; octets = rw (← e) (take-append-seam (joins its) (s .rest)) })
+
+-- ---- what holds of every item that is shown by its fields holds of all that are met
+
+module _ {A : Type 0} (of : ℕ → List (List ℕ) → A) (P : A → Type 0) (all : (at : ℕ) (c : List (List ℕ)) → P (of at c)) where
+  each-standing : (at : ℕ) (its : List (List (List ℕ))) → Each P (standing of at its)
+  each-standing at [] = tt
+  each-standing at (c ∷ its) = (all at c, each-standing (at + length (join c)) its)
+
+  pub each-met : (m : List ℕ) (one : ℕ → A) (end : A → ℕ) (n at stop : ℕ) (its : List (List (List ℕ))) → Meets m one end of n at stop its → Each P (met one end n at)
+  each-met m one end n at stop its h = subst⁻¹ (Each P) (h .all) (each-standing at its)

@@ -16,12 +16,14 @@ use Rattle.page_spec.specs.Names.{peerType, bgpId}
 use Rattle.page_spec.specs.Rib.{tiling, attributes, entry}
 use Rattle.record_spec.specs.Fields as show
 use Rattle.record_spec.specs.declared.Part.{Part}
+use Rattle.record_spec.specs.declared.Peer.{Peer}
 use Rattle.record_spec.specs.declared.Peer.the-variants as peers
+use Rattle.record_spec.specs.declared.Entry.{Entry}
 use Rattle.record_spec.specs.declared.Entry.the-variants as entries
-use Rattle.record_spec.specs.Answer.{peerEnd, entryEnd}
-use Rattle.record_spec.specs.Items.{peerAt, entryAt, fieldIn, peerOf, entryOf, Meets}
+use Rattle.record_spec.specs.Answer.{peerFault, peerEnd, entryFault, entryEnd}
+use Rattle.record_spec.specs.Items.{peerAt, entryAt, met, fieldIn, peerOf, entryOf, Each, Meets}
 use Rattle.record_laws.proofs.Parts.{Parts, by-parts, parts-choose}
-use Rattle.record_laws.proofs.Going.{Stand, meets}
+use Rattle.record_laws.proofs.Going.{Stand, meets, each-met}
 
 module _ (m : List ℕ) (at : ℕ) where
   -- ---- a peer
@@ -74,3 +76,10 @@ module _ (m : List ℕ) (n at stop : ℕ) (its : List (List (List ℕ))) where
 
   pub entries-meet : (count : ℕ) → Stand m (entry count) n at stop its → Meets m (λ a. entryAt m a count) entryEnd entryOf n at stop its
   entries-meet count s = meets m (entry count) (λ a. entryAt m a count) entryEnd entryOf (λ a. entry-shown m a count) (λ a c. refl) n at stop its s
+
+  -- none of them is a fault
+  pub no-peer-fault : (one : ℕ → Peer) → Meets m one peerEnd peerOf n at stop its → Each (λ x. peerFault x ≡ 0) (met one peerEnd n at)
+  no-peer-fault one h = each-met peerOf (λ x. peerFault x ≡ 0) (λ a c. refl) m one peerEnd n at stop its h
+
+  pub no-entry-fault : (one : ℕ → Entry) → Meets m one entryEnd entryOf n at stop its → Each (λ x. entryFault x ≡ 0) (met one entryEnd n at)
+  no-entry-fault one h = each-met entryOf (λ x. entryFault x ≡ 0) (λ a c. refl) m one entryEnd n at stop its h

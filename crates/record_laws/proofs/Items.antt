@@ -6,9 +6,9 @@ use native.Mathlib.Omega.{arith}
 use lib.ListN.{length, take, drop, length-append, length-drop, take-append-drop}
 use lib.Seq.{length-take-le}
 use Rattle.form_spec.specs.Octets.{Octets}
-use Rattle.form_spec.specs.Fmt.{good, Fmt, end}
-use Rattle.form_spec.specs.Body.{Plan, many, Body, listed, joins, BodyFits}
-use Rattle.form_spec.specs.Shape.{Layout, entries, St, withPeers, plan, itemsOf}
+use Rattle.form_spec.specs.Fmt.{good, Fmt, end, Fits}
+use Rattle.form_spec.specs.Body.{Plan, many, Body, plain, listed, joins, BodyFits}
+use Rattle.form_spec.specs.Shape.{Layout, entries, St, noTable, withPeers, plan, itemsOf}
 use Rattle.form_spec.specs.Record.{Rec, write, size, readRec, Valid}
 use Rattle.form_spec.specs.Put as put
 use Rattle.form_spec.specs.Gives.{tailOf}
@@ -27,7 +27,7 @@ use Rattle.record_spec.specs.declared.Shown.{Shown}
 use Rattle.record_spec.specs.declared.Shown.the-variants.{Good}
 use Rattle.record_spec.specs.declared.Body.the-variants.{PeerTable, Rib, RibGeneric}
 use Rattle.record_spec.specs.declared.Table.{Table}
-use Rattle.record_spec.specs.declared.Table.the-variants.{Holds}
+use Rattle.record_spec.specs.declared.Table.the-variants.{Absent, Holds}
 use Rattle.record_spec.specs.One.{readOne}
 use Rattle.record_spec.specs.Tells.{Tells}
 use Rattle.record_spec.specs.Agrees.{Agrees, Same}
@@ -61,14 +61,22 @@ items-stand s f g (listed cs its) fits p n tail h =
 told-plan : (n : ℕ) (st : St) → Tells (Holds n) st → (f : Fmt) → plan st (entries f entryRest) ≡ many f (entry n)
 told-plan n (withPeers ns) h f = rw h (plan-entries ns f)
 
+-- it is well-formed only where one is told
+told : (t : Table) (st : St) → Tells t st → (f g : Fmt) (b : Body) → BodyFits (plan st (entries f g)) b → (n : ℕ) × (t ≡ Holds n)
+unfolding plan BodyFits Fits
+told Absent noTable h f g (plain cs) fits = absurd (omega (arith, fits .0))
+told (Holds n) (withPeers ns) h f g b fits = (n, refl)
+
 module _ (longest : ℕ) (t : Table) (st : St) (tells : Tells t st) (s : List ℕ) (oc : Octets s) (r : Rec) (q : List ℕ) (reads : readRec (layout longest) st 0 s ≡ good r q) where
   right : Valid (layout longest) st r × (write r ++ q ≡ s)
   right = subst (Right (Valid (layout longest) st) write s) reads (sound-rec (layout longest) st 0 s oc)
 
-  long : size r + length q ≡ length s
+  -- the record, and what is left
+  pub long : size r + length q ≡ length s
   long = ap (λ (n : ℕ). n + length q) (sym (length-write r)) ∙ sym (length-append (write r) q) ∙ ap length (right .1)
 
-  same : (x : Shown) → readOne longest t s ≡ x → Same longest s r x
+  -- what is shown of it
+  pub same : (x : Shown) → readOne longest t s ≡ x → Same longest s r x
   same x e = subst (Same longest s r) e (rw reads at (one-record longest t st tells s oc (omega (arith, long))))
 
   -- in what is shown: the kind of x has items of the format g, n of them in p, which reaches to its end
@@ -87,40 +95,50 @@ module _ (longest : ℕ) (t : Table) (st : St) (tells : Tells t st) (s : List �
         let k = kind-by (kind (r .type) (r .sub)) 2 (same x e .whose) (omega arith) in
         shown-stand x e (tableHead (end 0)) peer (rw k) (p .peers) (p .count) (same x e .gives .tail) (subst Rested e (rested longest t s))
 
+    rib-layout : (e : Routes) → readOne longest t s ≡ Good h (Rib e) → (f : Fmt) × (layout longest (r .type) (r .sub) ≡ entries f entryRest)
+    unfolding layout layoutFor
+    rib-layout e z = let k = kind-by (kind (r .type) (r .sub)) 3 (same (Good h (Rib e)) z .whose) (omega arith) in (ribHead (k .0) (end 0), ap (layoutFor longest) (k .1))
+
+    generic-layout : (f : Scope) (e : Routes) → readOne longest t s ≡ Good h (RibGeneric f e) → (f : Fmt) × (layout longest (r .type) (r .sub) ≡ entries f entryRest)
+    unfolding layout layoutFor
+    generic-layout f e z = let k = kind-by (kind (r .type) (r .sub)) 4 (same (Good h (RibGeneric f e)) z .whose) (omega arith) in (genericHead (end 0), ap (layoutFor longest) k)
+
+    entries-told : (f : Fmt) × (layout longest (r .type) (r .sub) ≡ entries f entryRest) → (n : ℕ) × (t ≡ Holds n)
+    entries-told l = told t st tells (l .0) entryRest (r .body) (subst (λ (y : Layout). BodyFits (plan st y) (r .body)) (l .1) (right .0 .fits))
+
+    -- a RIB record is shown only where a table is told
+    pub rib-told : (e : Routes) → readOne longest t s ≡ Good h (Rib e) → (n : ℕ) × (t ≡ Holds n)
+    rib-told e z = entries-told (rib-layout e z)
+
+    pub generic-told : (f : Scope) (e : Routes) → readOne longest t s ≡ Good h (RibGeneric f e) → (n : ℕ) × (t ≡ Holds n)
+    generic-told f e z = entries-told (generic-layout f e z)
+
     -- so do the peers that a caller meets
     pub peers-met : (p : Peers) → readOne longest t s ≡ Good h (PeerTable p) → Meets s (peerAt s) answer.peerEnd peerOf (p .count) (p .peers .at) (answer.end h) (itemsOf (r .body))
     peers-met p e = peers-meet s (p .count) (p .peers .at) (answer.end h) (itemsOf (r .body)) (peers-stand p e)
 
 -- ---- where the table told has n peers
 
-module _ (longest n : ℕ) (st : St) (tells : Tells (Holds n) st) (s : List ℕ) (oc : Octets s) (r : Rec) (q : List ℕ) (reads : readRec (layout longest) st 0 s ≡ good r q) where
+module _ (longest n : ℕ) (st : St) (tells : Tells (Holds n) st) (s : List ℕ) (oc : Octets s) (r : Rec) (q : List ℕ) (reads : readRec (layout longest) st 0 s ≡ good r q) (h : Header) where
   abbrev shown : Shown
   shown = readOne longest (Holds n) s
 
-  entries-stand : (x : Shown) → shown ≡ x → (f : Fmt) → layout longest (r .type) (r .sub) ≡ entries f entryRest → (e : Routes) → put.items (e .count) (answer.within s (e .entries)) ≡ tailOf (r .body)
-      → e .entries .at + e .entries .size ≡ answer.place x → Stand s (entry n) (e .count) (e .entries .at) (answer.place x) (itemsOf (r .body))
-  entries-stand x z f l e tail reach =
-      shown-stand longest (Holds n) st tells s oc r q reads x z f (entry n) (ap (plan st) l ∙ told-plan n st tells f) (e .entries) (e .count) tail reach
+  pub rib-stand : (e : Routes) → shown ≡ Good h (Rib e) → Stand s (entry n) (e .count) (e .entries .at) (answer.end h) (itemsOf (r .body))
+  rib-stand e z =
+      let l = rib-layout longest (Holds n) st tells s oc r q reads h e z in
+      shown-stand longest (Holds n) st tells s oc r q reads (Good h (Rib e)) z (l .0) (entry n) (ap (plan st) (l .1) ∙ told-plan n st tells (l .0)) (e .entries) (e .count)
+      (same longest (Holds n) st tells s oc r q reads (Good h (Rib e)) z .gives .tail) (subst Rested z (rested longest (Holds n) s))
 
-  module _ (h : Header) where
-    pub rib-stand : (e : Routes) → shown ≡ Good h (Rib e) → Stand s (entry n) (e .count) (e .entries .at) (answer.end h) (itemsOf (r .body))
-    unfolding layout layoutFor
-    rib-stand e z =
-        let w = same longest (Holds n) st tells s oc r q reads (Good h (Rib e)) z in
-        let k = kind-by (kind (r .type) (r .sub)) 3 (w .whose) (omega arith) in
-        entries-stand (Good h (Rib e)) z (ribHead (k .0) (end 0)) (ap (layoutFor longest) (k .1)) e (w .gives .tail) (subst Rested z (rested longest (Holds n) s))
+  pub generic-stand : (f : Scope) (e : Routes) → shown ≡ Good h (RibGeneric f e) → Stand s (entry n) (e .count) (e .entries .at) (answer.end h) (itemsOf (r .body))
+  generic-stand f e z =
+      let l = generic-layout longest (Holds n) st tells s oc r q reads h f e z in
+      shown-stand longest (Holds n) st tells s oc r q reads (Good h (RibGeneric f e)) z (l .0) (entry n) (ap (plan st) (l .1) ∙ told-plan n st tells (l .0)) (e .entries) (e .count)
+      (same longest (Holds n) st tells s oc r q reads (Good h (RibGeneric f e)) z .gives .tail) (subst Rested z (rested longest (Holds n) s))
 
-    pub generic-stand : (f : Scope) (e : Routes) → shown ≡ Good h (RibGeneric f e) → Stand s (entry n) (e .count) (e .entries .at) (answer.end h) (itemsOf (r .body))
-    unfolding layout layoutFor
-    generic-stand f e z =
-        let w = same longest (Holds n) st tells s oc r q reads (Good h (RibGeneric f e)) z in
-        let k = kind-by (kind (r .type) (r .sub)) 4 (w .whose) (omega arith) in
-        entries-stand (Good h (RibGeneric f e)) z (genericHead (end 0)) (ap (layoutFor longest) k) e (w .gives .tail) (subst Rested z (rested longest (Holds n) s))
+  -- so do the entries that a caller meets
+  pub entries-met : (e : Routes) → shown ≡ Good h (Rib e) → Meets s (λ a. entryAt s a n) answer.entryEnd entryOf (e .count) (e .entries .at) (answer.end h) (itemsOf (r .body))
+  entries-met e z = entries-meet s (e .count) (e .entries .at) (answer.end h) (itemsOf (r .body)) n (rib-stand e z)
 
-    -- so do the entries that a caller meets
-    pub entries-met : (e : Routes) → shown ≡ Good h (Rib e) → Meets s (λ a. entryAt s a n) answer.entryEnd entryOf (e .count) (e .entries .at) (answer.end h) (itemsOf (r .body))
-    entries-met e z = entries-meet s (e .count) (e .entries .at) (answer.end h) (itemsOf (r .body)) n (rib-stand e z)
-
-    pub generic-entries-met : (f : Scope) (e : Routes) → shown ≡ Good h (RibGeneric f e)
-        → Meets s (λ a. entryAt s a n) answer.entryEnd entryOf (e .count) (e .entries .at) (answer.end h) (itemsOf (r .body))
-    generic-entries-met f e z = entries-meet s (e .count) (e .entries .at) (answer.end h) (itemsOf (r .body)) n (generic-stand f e z)
+  pub generic-entries-met : (f : Scope) (e : Routes) → shown ≡ Good h (RibGeneric f e)
+      → Meets s (λ a. entryAt s a n) answer.entryEnd entryOf (e .count) (e .entries .at) (answer.end h) (itemsOf (r .body))
+  generic-entries-met f e z = entries-meet s (e .count) (e .entries .at) (answer.end h) (itemsOf (r .body)) n (generic-stand f e z)

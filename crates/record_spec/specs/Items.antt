@@ -39,6 +39,11 @@ abbrev pub standing : {A : Type 0} (of : (at : ℕ) → List (List ℕ) → A) (
 standing of at [] = []
 standing of at (c ∷ cs) = of at c ∷ standing of (at + length (join c)) cs
 
+-- P holds of every one
+abbrev pub Each : {A : Type 0} (P : A → Type 0) → List A → Type 0
+Each P [] = Unit
+Each P (x ∷ xs) = P x × Each P xs
+
 -- where field k of an item lies
 abbrev pub fieldIn : (k at : ℕ) → List (List ℕ) → Part
 fieldIn k at c = record { at = at + length (join (take k c)); size = length (getD c k []) }
