@@ -21,6 +21,13 @@ seen (test n b f) i cs = seen f i cs
 seen (field x l b k) i [] = []
 seen (field x l b k) i (c ∷ cs) = note x i (length c) (i + length c) (be c) (seen (k c) (i + length c) cs)
 
+-- the first field of a format, which has one, has octets
+unfoldable pub Opens : Fmt → Type 0
+Opens (end b) = ⊥
+Opens (test n b f) = ⊥
+Opens (field x zero b k) = ⊥
+Opens (field x (suc l) b k) = Unit
+
 module _ {A : Type 0} where
   unfoldable pub outcome : (List Seen → ℕ → ℕ → A) → (ℕ → ℕ → A) → Fmt → ℕ → Out (List (List ℕ)) → A
   outcome to fault f i (bad n p) = fault n p
@@ -57,6 +64,19 @@ module _ {A : Type 0} where
           let s : i + l ≤ length m = ltb-false _ _ e in
           let g : l ≤ length (drop i m) = rw length-drop (omega arith) in
           rw (le-ltb _ _ g, drop-drop) (r s ∙ outcome-keep to fault x b i l k (take l (drop i m)) (read (k (take l (drop i m))) (i + l) (drop (i + l) m)) (length-take-le l (drop i m) g))
+
+  -- past the end of m too, where a first field must have octets
+  pub pass-opens : (to : List Seen → ℕ → ℕ → A) (fault : ℕ → ℕ → A) (f : Fmt) (m : List ℕ) (i : ℕ) → Opens f → pass to fault f m i ≡ outcome to fault f i (read f i (drop i m))
+  unfolding pass read outcome Opens
+  pass-opens to fault (field x (suc l) b k) m i o = go (ltb (length m) i) refl
+    where
+      go : (t : Bool) → ltb (length m) i ≡ t → pass to fault (field x (suc l) b k) m i ≡ outcome to fault (field x (suc l) b k) i (read (field x (suc l) b k) i (drop i m))
+      go true e =
+          let h : length m < i = ltb-true (length m) i e in
+          let p : length m < i + suc l = omega arith in
+          let q : length (drop i m) < suc l = rw length-drop (omega arith) in
+          rw (lt-ltb _ _ p, lt-ltb _ _ q)
+      go false e = pass-read to fault (field x (suc l) b k) m i (ltb-false (length m) i e)
 
   -- where the fields of the format stand, there is no fault
   pub pass-fits : (to : List Seen → ℕ → ℕ → A) (fault : ℕ → ℕ → A) (f : Fmt) (m : List ℕ) (i : ℕ) (cs : List (List ℕ)) (r : List ℕ) → i ≤ length m → Fits f cs → join cs ++ r ≡ drop i m

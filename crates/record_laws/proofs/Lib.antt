@@ -11,6 +11,7 @@ pub mod KindBy
 pub mod Going
 pub mod Item
 pub mod Items
+pub mod Finds
 pub mod Accepts
 pub mod Only
 pub mod Restores
