@@ -173,3 +173,16 @@ module _ (longest force : ℕ) (d : List ℕ) (oc : Octets d) (at : ℕ) where
 
     pub no-entry-faults : a .ty ≡ 13 → (a .subtype ≡ 1 → ⊥) → Each (λ e. entryFault e ≡ 0) (met (unjudgedAt d) entryEnd (a .count) (at + a .items))
     no-entry-faults y u = no-entry-fault d (a .count) (at + a .items) (a .place) (itemsOf (r .body)) (unjudgedAt d) (entries-met y u .1)
+
+  -- ---- in the words of the calls alone
+
+  -- what the reader of the grammar finds there
+  abbrev pub Read : Rec → Type 0
+  Read r = (q : List ℕ) × (readRec (layout longest) (stateOf t) 0 s ≡ good r q)
+
+  pub table-met : a .fault ≡ 0 → at < length d → a .ty ≡ 13 → a .subtype ≡ 1 → (r : Rec) × Read r × Meets d (peerAt d) peerEnd peerOf (a .count) (at + a .items) (a .place) (itemsOf (r .body))
+  table-met e h y u = let f = found e h in (f .0, (f .1, f .2), peers-met (f .0) (f .1) (f .2) y u)
+
+  pub rib-met : a .fault ≡ 0 → at < length d → a .ty ≡ 13 → (a .subtype ≡ 1 → ⊥)
+      → (r : Rec) × Read r × AllFits (entry force) (itemsOf (r .body)) × Meets d (unjudgedAt d) entryEnd entryOf (a .count) (at + a .items) (a .place) (itemsOf (r .body))
+  rib-met e h y u = let f = found e h in let m = entries-met (f .0) (f .1) (f .2) y u in (f .0, (f .1, f .2), m .0, m .1)

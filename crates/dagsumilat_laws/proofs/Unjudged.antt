@@ -8,15 +8,16 @@ use Rattle.form_spec.specs.Octets.{be}
 use Rattle.form_spec.specs.Fmt.{Fits, join}
 use Rattle.form_spec.specs.Body.{AllFits}
 use Rattle.form_spec.specs.Words.{num, skip, checked, tested}
-use Rattle.form_laws.proofs.Pass.{pass-fits}
+use Rattle.form_laws.proofs.Pass.{Opens, pass-fits}
 use Rattle.page_spec.specs.Rib.{tiling, attributes, entry}
 use Rattle.record_spec.specs.Fields as show
 use Rattle.record_spec.specs.declared.Entry.the-variants as entries
-use Rattle.record_spec.specs.Answer.{entryEnd}
-use Rattle.record_spec.specs.Items.{entryOf, Meets}
+use Rattle.record_spec.specs.Answer.{entryFault, entryEnd}
+use Rattle.record_spec.specs.Items.{Finds, entryOf, Meets}
 use Rattle.record_laws.proofs.Parts.{Parts, by-parts}
 use Rattle.record_laws.proofs.Going.{Stand, meets}
 use Rattle.record_laws.proofs.Item.{EntrySeen}
+use Rattle.record_laws.proofs.Finds.{finds}
 use Rattle.dagsumilat_spec.specs.Unjudged.{entryFields, unjudgedAt}
 
 module _ (m : List ℕ) where
@@ -52,3 +53,8 @@ pub fields-meet : (m : List ℕ) (count n at stop : ℕ) (its : List (List (List
 fields-meet m count n at stop its s =
     meets m entryFields (unjudgedAt m) entryEnd entryOf (fields-shown m) (λ a c. refl) n at stop its
     (record { rest = s .rest; here = record { fits = all-fields-fit count its (s .here .fits); many = s .here .many; lie = s .here .lie }; ends = s .ends; inside = s .inside })
+
+-- it is found with the number and the place that the reader of these fields gives, wherever it is asked for
+pub unjudged-finds : (m : List ℕ) (at : ℕ) → Finds entryFields m at (entryFault (unjudgedAt m at)) (entryEnd (unjudgedAt m at))
+unfolding Opens entryFields num
+unjudged-finds m at = finds show.entry entries.Bad entryFault entryEnd (λ fs a p. (refl, refl)) (λ n p. (refl, refl)) entryFields tt m at
