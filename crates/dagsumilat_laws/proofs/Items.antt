@@ -2,7 +2,7 @@
 use mathlib.Core.Path.{_≡_, refl, sym, ap, _∙_, subst⁻¹}
 use mathlib.Core.Bool.{Bool, true, false}
 use mathlib.Core.List.{List}
-use Prim.Native.Nat.{ℕ, _+_, _≤_, _<_}
+use Prim.Native.Nat.{ℕ, _+_, _<_}
 use native.Mathlib.Omega.{arith}
 use lib.Dec.{eqb}
 use lib.ListN.{length, drop, length-drop}
@@ -33,7 +33,7 @@ use Rattle.record_laws.proofs.One.{one-record}
 use Rattle.record_laws.proofs.Accepts.{tells-table}
 use Rattle.record_laws.proofs.Going.{Stand, stand-behind}
 use Rattle.record_laws.proofs.Item.{peers-meet, no-peer-fault, no-entry-fault}
-use Rattle.record_laws.proofs.Items.{long, same, peers-stand, rib-told, generic-told, rib-stand, generic-stand}
+use Rattle.record_laws.proofs.Items.{read-long, read-same, peers-stand, rib-told, generic-told, rib-stand, generic-stand}
 use Rattle.walk_spec.specs.Steps.{stepOf, stepAt}
 use Rattle.walk_spec.specs.declared.Item.{Item}
 use Rattle.look_spec.specs.Sort.{Sort, unread, ofPeer, table, rib, sortOf, sortBy}
@@ -137,7 +137,7 @@ module _ (longest force : ℕ) (d : List ℕ) (oc : Octets d) (at : ℕ) where
 
   module _ (r : Rec) (q : List ℕ) (reads : readRec (layout longest) (stateOf t) 0 s ≡ good r q) where
     inside : at < length d
-    inside = omega (arith, long longest t (stateOf t) (tells-table t) s (octets-drop at d oc) r q reads, length-drop at d)
+    inside = omega (arith, read-long longest t (stateOf t) (tells-table t) s (octets-drop at d oc) r q reads, length-drop at d)
 
     -- type and subtype say its sort
     sort : sortOf x ≡ sortBy (a .ty) (a .subtype)
@@ -145,7 +145,7 @@ module _ (longest force : ℕ) (d : List ℕ) (oc : Octets d) (at : ℕ) where
     sort =
         let terms : field.Told = record { longest = longest; table = t } in
         let y = typed force t at x in
-        rw (y .0, y .1) (sorted terms d at (inside, same longest t (stateOf t) (tells-table t) s (octets-drop at d oc) r q reads x refl .accepted))
+        rw (y .0, y .1) (sorted terms d at (inside, read-same longest t (stateOf t) (tells-table t) s (octets-drop at d oc) r q reads x refl .accepted))
 
     -- the peers of a table
     pub peers-met : a .ty ≡ 13 → a .subtype ≡ 1 → Meets d (peerAt d) peerEnd peerOf (a .count) (at + a .items) (a .place) (itemsOf (r .body))

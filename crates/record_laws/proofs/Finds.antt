@@ -1,5 +1,5 @@
 -- A peer or an entry is found with the number and the place that its grammar's reader gives, wherever it is asked for.
-use mathlib.Core.Path.{_≡_, refl, ap, _∙_}
+use mathlib.Core.Path.{_≡_, refl}
 use mathlib.Core.List.{List}
 use Prim.Native.Nat.{ℕ, _+_, _-_}
 use lib.ListN.{length, drop}

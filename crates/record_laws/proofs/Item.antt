@@ -10,12 +10,11 @@ use Rattle.form_spec.specs.Fmt.{Fits, join}
 use Rattle.form_spec.specs.Words.{num, skip, checked, tested}
 use Rattle.form_spec.specs.Pass.{Seen}
 use Rattle.form_spec.specs.Shape.{number}
-use Rattle.form_laws.proofs.Pass.{seen, pass-fits}
+use Rattle.form_laws.proofs.Pass.{pass-fits}
 use Rattle.page_spec.specs.Peers.{peerRest, peerSized, peer}
 use Rattle.page_spec.specs.Names.{peerType, bgpId}
 use Rattle.page_spec.specs.Rib.{tiling, attributes, entry}
 use Rattle.record_spec.specs.Fields as show
-use Rattle.record_spec.specs.declared.Part.{Part}
 use Rattle.record_spec.specs.declared.Peer.{Peer}
 use Rattle.record_spec.specs.declared.Peer.the-variants as peers
 use Rattle.record_spec.specs.declared.Entry.{Entry}

@@ -1,7 +1,7 @@
 -- Going from item to item of a record that was read shows just its items, never a fault, and ends where the record ends.
 use mathlib.Core.Path.{_≡_, refl, sym, ap, _∙_, subst}
 use mathlib.Core.List.{List, _++_}
-use Prim.Native.Nat.{ℕ, _+_, _≤_, _<_}
+use Prim.Native.Nat.{ℕ, _+_, _≤_}
 use native.Mathlib.Omega.{arith}
 use lib.ListN.{length, take, drop, length-append, length-drop, take-append-drop}
 use lib.Seq.{length-take-le}
@@ -30,7 +30,7 @@ use Rattle.record_spec.specs.declared.Table.{Table}
 use Rattle.record_spec.specs.declared.Table.the-variants.{Absent, Holds}
 use Rattle.record_spec.specs.One.{readOne}
 use Rattle.record_spec.specs.Tells.{Tells}
-use Rattle.record_spec.specs.Agrees.{Agrees, Same}
+use Rattle.record_spec.specs.Agrees.{Same}
 use Rattle.record_spec.specs.Answer as answer
 use Rattle.record_spec.specs.Items.{peerAt, entryAt, peerOf, entryOf, Meets}
 use Rattle.record_laws.proofs.One.{one-record}
@@ -42,7 +42,7 @@ use Rattle.record_laws.proofs.Item.{peers-meet, entries-meet}
 -- ---- where the items stand
 
 -- what a writer would be given of them, n in the part p, which reaches to the record's end
-items-stand : (s : List ℕ) (f g : Fmt) (b : Body) → BodyFits (many f g) b → (p : Part) (n : ℕ) → put.items n (answer.within s p) ≡ tailOf b → p .at + p .size ≤ length s
+pub items-stand : (s : List ℕ) (f g : Fmt) (b : Body) → BodyFits (many f g) b → (p : Part) (n : ℕ) → put.items n (answer.within s p) ≡ tailOf b → p .at + p .size ≤ length s
     → Stand s g n (p .at) (p .at + p .size) (itemsOf b)
 unfolding BodyFits
 items-stand s f g (listed cs its) fits p n tail h =
@@ -61,7 +61,7 @@ items-stand s f g (listed cs its) fits p n tail h =
 told-plan : (n : ℕ) (st : St) → Tells (Holds n) st → (f : Fmt) → plan st (entries f entryRest) ≡ many f (entry n)
 told-plan n (withPeers ns) h f = rw h (plan-entries ns f)
 
--- it is well-formed only where one is told
+-- which is well-formed only where a table is told
 told : (t : Table) (st : St) → Tells t st → (f g : Fmt) (b : Body) → BodyFits (plan st (entries f g)) b → (n : ℕ) × (t ≡ Holds n)
 unfolding plan BodyFits Fits
 told Absent noTable h f g (plain cs) fits = absurd (omega (arith, fits .0))
@@ -71,37 +71,42 @@ module _ (longest : ℕ) (t : Table) (st : St) (tells : Tells t st) (s : List �
   right : Valid (layout longest) st r × (write r ++ q ≡ s)
   right = subst (Right (Valid (layout longest) st) write s) reads (sound-rec (layout longest) st 0 s oc)
 
-  -- the record, and what is left
-  pub long : size r + length q ≡ length s
-  long = ap (λ (n : ℕ). n + length q) (sym (length-write r)) ∙ sym (length-append (write r) q) ∙ ap length (right .1)
+  -- the record's octets and those that are left
+  pub read-long : size r + length q ≡ length s
+  read-long = ap (λ (n : ℕ). n + length q) (sym (length-write r)) ∙ sym (length-append (write r) q) ∙ ap length (right .1)
 
-  -- what is shown of it
-  pub same : (x : Shown) → readOne longest t s ≡ x → Same longest s r x
-  same x e = subst (Same longest s r) e (rw reads at (one-record longest t st tells s oc (omega (arith, long))))
+  -- what is shown is the record's
+  pub read-same : (x : Shown) → readOne longest t s ≡ x → Same longest s r x
+  read-same x e = subst (Same longest s r) e (rw reads at (one-record longest t st tells s oc (omega (arith, read-long))))
 
   -- in what is shown: the kind of x has items of the format g, n of them in p, which reaches to its end
   shown-stand : (x : Shown) → readOne longest t s ≡ x → (f g : Fmt) → plan st (layout longest (r .type) (r .sub)) ≡ many f g → (p : Part) (n : ℕ) → put.items n (answer.within s p) ≡ tailOf (r .body)
       → p .at + p .size ≡ answer.place x → Stand s g n (p .at) (answer.place x) (itemsOf (r .body))
   shown-stand x e f g l p n tail reach =
-      let inside : p .at + p .size ≤ length s = omega (arith, reach, same x e .ends, long) in
+      let inside : p .at + p .size ≤ length s = omega (arith, reach, read-same x e .ends, read-long) in
       subst (λ (stop : ℕ). Stand s g n (p .at) stop (itemsOf (r .body))) reach
       (items-stand s f g (r .body) (subst (λ (y : Plan). BodyFits y (r .body)) l (right .0 .fits)) p n tail inside)
 
   module _ (h : Header) where
+    -- the peers of a table stand where the first is shown to start, up to the record's end
     pub peers-stand : (p : Peers) → readOne longest t s ≡ Good h (PeerTable p) → Stand s peer (p .count) (p .peers .at) (answer.end h) (itemsOf (r .body))
     unfolding layout layoutFor plan
     peers-stand p e =
         let x : Shown = Good h (PeerTable p) in
-        let k = kind-by (kind (r .type) (r .sub)) 2 (same x e .whose) (omega arith) in
-        shown-stand x e (tableHead (end 0)) peer (rw k) (p .peers) (p .count) (same x e .gives .tail) (subst Rested e (rested longest t s))
+        let k = kind-by (kind (r .type) (r .sub)) 2 (read-same x e .whose) (omega arith) in
+        shown-stand x e (tableHead (end 0)) peer (rw k) (p .peers) (p .count) (read-same x e .gives .tail) (subst Rested e (rested longest t s))
+
+    -- so going from one to the next meets just them
+    pub peers-met : (p : Peers) → readOne longest t s ≡ Good h (PeerTable p) → Meets s (peerAt s) answer.peerEnd peerOf (p .count) (p .peers .at) (answer.end h) (itemsOf (r .body))
+    peers-met p e = peers-meet s (p .count) (p .peers .at) (answer.end h) (itemsOf (r .body)) (peers-stand p e)
 
     rib-layout : (e : Routes) → readOne longest t s ≡ Good h (Rib e) → (f : Fmt) × (layout longest (r .type) (r .sub) ≡ entries f entryRest)
     unfolding layout layoutFor
-    rib-layout e z = let k = kind-by (kind (r .type) (r .sub)) 3 (same (Good h (Rib e)) z .whose) (omega arith) in (ribHead (k .0) (end 0), ap (layoutFor longest) (k .1))
+    rib-layout e z = let k = kind-by (kind (r .type) (r .sub)) 3 (read-same (Good h (Rib e)) z .whose) (omega arith) in (ribHead (k .0) (end 0), ap (layoutFor longest) (k .1))
 
     generic-layout : (f : Scope) (e : Routes) → readOne longest t s ≡ Good h (RibGeneric f e) → (f : Fmt) × (layout longest (r .type) (r .sub) ≡ entries f entryRest)
     unfolding layout layoutFor
-    generic-layout f e z = let k = kind-by (kind (r .type) (r .sub)) 4 (same (Good h (RibGeneric f e)) z .whose) (omega arith) in (genericHead (end 0), ap (layoutFor longest) k)
+    generic-layout f e z = let k = kind-by (kind (r .type) (r .sub)) 4 (read-same (Good h (RibGeneric f e)) z .whose) (omega arith) in (genericHead (end 0), ap (layoutFor longest) k)
 
     entries-told : (f : Fmt) × (layout longest (r .type) (r .sub) ≡ entries f entryRest) → (n : ℕ) × (t ≡ Holds n)
     entries-told l = told t st tells (l .0) entryRest (r .body) (subst (λ (y : Layout). BodyFits (plan st y) (r .body)) (l .1) (right .0 .fits))
@@ -113,29 +118,26 @@ module _ (longest : ℕ) (t : Table) (st : St) (tells : Tells t st) (s : List �
     pub generic-told : (f : Scope) (e : Routes) → readOne longest t s ≡ Good h (RibGeneric f e) → (n : ℕ) × (t ≡ Holds n)
     generic-told f e z = entries-told (generic-layout f e z)
 
-    -- so do the peers that a caller meets
-    pub peers-met : (p : Peers) → readOne longest t s ≡ Good h (PeerTable p) → Meets s (peerAt s) answer.peerEnd peerOf (p .count) (p .peers .at) (answer.end h) (itemsOf (r .body))
-    peers-met p e = peers-meet s (p .count) (p .peers .at) (answer.end h) (itemsOf (r .body)) (peers-stand p e)
-
 -- ---- where the table told has n peers
 
 module _ (longest n : ℕ) (st : St) (tells : Tells (Holds n) st) (s : List ℕ) (oc : Octets s) (r : Rec) (q : List ℕ) (reads : readRec (layout longest) st 0 s ≡ good r q) (h : Header) where
   abbrev shown : Shown
   shown = readOne longest (Holds n) s
 
+  -- and so do the entries of a RIB record
   pub rib-stand : (e : Routes) → shown ≡ Good h (Rib e) → Stand s (entry n) (e .count) (e .entries .at) (answer.end h) (itemsOf (r .body))
   rib-stand e z =
       let l = rib-layout longest (Holds n) st tells s oc r q reads h e z in
       shown-stand longest (Holds n) st tells s oc r q reads (Good h (Rib e)) z (l .0) (entry n) (ap (plan st) (l .1) ∙ told-plan n st tells (l .0)) (e .entries) (e .count)
-      (same longest (Holds n) st tells s oc r q reads (Good h (Rib e)) z .gives .tail) (subst Rested z (rested longest (Holds n) s))
+      (read-same longest (Holds n) st tells s oc r q reads (Good h (Rib e)) z .gives .tail) (subst Rested z (rested longest (Holds n) s))
 
   pub generic-stand : (f : Scope) (e : Routes) → shown ≡ Good h (RibGeneric f e) → Stand s (entry n) (e .count) (e .entries .at) (answer.end h) (itemsOf (r .body))
   generic-stand f e z =
       let l = generic-layout longest (Holds n) st tells s oc r q reads h f e z in
       shown-stand longest (Holds n) st tells s oc r q reads (Good h (RibGeneric f e)) z (l .0) (entry n) (ap (plan st) (l .1) ∙ told-plan n st tells (l .0)) (e .entries) (e .count)
-      (same longest (Holds n) st tells s oc r q reads (Good h (RibGeneric f e)) z .gives .tail) (subst Rested z (rested longest (Holds n) s))
+      (read-same longest (Holds n) st tells s oc r q reads (Good h (RibGeneric f e)) z .gives .tail) (subst Rested z (rested longest (Holds n) s))
 
-  -- so do the entries that a caller meets
+  -- so going from one to the next meets just them
   pub entries-met : (e : Routes) → shown ≡ Good h (Rib e) → Meets s (λ a. entryAt s a n) answer.entryEnd entryOf (e .count) (e .entries .at) (answer.end h) (itemsOf (r .body))
   entries-met e z = entries-meet s (e .count) (e .entries .at) (answer.end h) (itemsOf (r .body)) n (rib-stand e z)
 
