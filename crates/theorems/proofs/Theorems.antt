@@ -39,14 +39,16 @@ use Rattle.record_spec.specs.declared.Shown.{Shown}
 use Rattle.record_spec.specs.declared.Shown.the-variants.{Nothing, Good}
 use Rattle.record_spec.specs.declared.Header.{Header}
 use Rattle.record_spec.specs.declared.Peers.{Peers}
+use Rattle.record_spec.specs.declared.Peer.{Peer}
+use Rattle.record_spec.specs.declared.Entry.{Entry}
 use Rattle.record_spec.specs.declared.Routes.{Routes}
 use Rattle.record_spec.specs.declared.Scope.{Scope}
 use Rattle.record_spec.specs.declared.Body.the-variants.{PeerTable, Rib, RibGeneric}
 use Rattle.record_spec.specs.declared.Table.the-variants.{Holds}
 use Rattle.record_spec.specs.Table.{stateOf}
 use Rattle.record_spec.specs.One.{readOne}
-use Rattle.record_spec.specs.Answer.{fault, place, end, peerEnd, entryEnd}
-use Rattle.record_spec.specs.Items.{peerAt, entryAt, peerOf, entryOf, Meets}
+use Rattle.record_spec.specs.Answer.{fault, place, end, peerFault, peerEnd, entryFault, entryEnd}
+use Rattle.record_spec.specs.Items.{peerAt, entryAt, met, peerOf, entryOf, Each, Meets}
 use Rattle.room_spec.specs.declared.Written.the-variants as answer
 use Rattle.write_spec.specs.Only.{only}
 use Rattle.write_spec.specs.Verdict.{writerAnswer, writerLeaves, Writes}
@@ -65,6 +67,7 @@ use Rattle.record_laws.proofs.One as one
 use Rattle.record_laws.proofs.Accepts as accepts
 use Rattle.record_laws.proofs.Restores as restores
 use Rattle.record_laws.proofs.Written as writing
+use Rattle.record_laws.proofs.Item as item
 use Rattle.record_laws.proofs.Items as items
 use Rattle.walk_laws.proofs.Demand2 as dumps
 use Rattle.cut_laws.proofs.Answers as answers-of
@@ -136,7 +139,7 @@ module _ (longest : ℕ) where
   read-back t st told n a p g fair out held k o w = let b = writing.read-back longest t st told n a p g fair st (λ e. e) out held k o w in (b .accepted, b .ends, b .whose, b .given)
 
   -- the peers of a table and the entries of a RIB record: going `count` times from the first, each time to where the one shown ends, meets
-  -- the record's own items, each with its fields and no fault, and ends where the record ends
+  -- the record's own items, each with its fields, and ends where the record ends
   module _ (s : List ℕ) (o : Octets s) (r : Rec) (q : List ℕ) (h : Header) where
     pub peers-are-met : (t : Table) (st : St) → Tells t st → readRec (layout longest) st 0 s ≡ good r q → (p : Peers) → readOne longest t s ≡ Good h (PeerTable p)
         → Meets s (peerAt s) peerEnd peerOf (p .count) (p .peers .at) (end h) (itemsOf (r .body))
@@ -165,6 +168,14 @@ module _ (longest : ℕ) where
     pub calls-meet-entries : a .fault ≡ 0 → at < length d → a .ty ≡ 13 → (a .subtype ≡ 1 → ⊥)
         → (r : Rec) × Read r × AllFits (entry table) (itemsOf (r .body)) × Meets d (unjudgedAt d) entryEnd entryOf (a .count) (at + a .items) (a .place) (itemsOf (r .body))
     calls-meet-entries e more y u = calls.rib-met longest table d o at e more y u
+
+  -- nothing that is met so is a fault
+  module _ (m : List ℕ) (n at stop : ℕ) (its : List (List (List ℕ))) where
+    pub met-peers-are-good : (one : ℕ → Peer) → Meets m one peerEnd peerOf n at stop its → Each (λ p. peerFault p ≡ 0) (met one peerEnd n at)
+    met-peers-are-good one w = item.no-peer-fault m n at stop its one w
+
+    pub met-entries-are-good : (one : ℕ → Entry) → Meets m one entryEnd entryOf n at stop its → Each (λ e. entryFault e ≡ 0) (met one entryEnd n at)
+    met-entries-are-good one w = item.no-entry-fault m n at stop its one w
 
   -- ==== Demand 3. A cut takes a window and a list of AS numbers; what it leaves is `leftOf`, the dump that document 01 defines.
 
