@@ -1,10 +1,10 @@
 -- A record with items: where they lie, and what is written of it with other items.
 use mathlib.Core.Path.{_≡_, refl, sym, ap, _∙_, subst}
 use mathlib.Core.List.{List, _++_, append-assoc, append-nil}
-use Prim.Native.Nat.{ℕ, _+_, _-_, _≤_, _<_}
+use Prim.Native.Nat.{ℕ, _+_, _-_, _<_}
 use native.Mathlib.Omega.{arith}
-use lib.ListN.{length, take, drop, length-append, length-drop}
-use lib.Seq.{take-at, drop-at, drop-drop, take-append-seam, length-take-le}
+use lib.ListN.{length, take, drop, length-append}
+use lib.Seq.{take-at, drop-at, drop-drop, take-append-seam}
 use Rattle.form_spec.specs.Octets.{toBe}
 use Rattle.form_spec.specs.Fmt.{Fmt, join}
 use Rattle.form_spec.specs.Body.{Body, listed, many, joins, spell, AllFits, BodyFits}
@@ -18,6 +18,7 @@ use Rattle.record_spec.specs.Answer.{within}
 use Rattle.form_spec.specs.Found.{Lie, items}
 use Rattle.cut_spec.specs.One.{itemsLeft}
 use Rattle.form_laws.proofs.Found.{lie-of}
+use Rattle.record_laws.proofs.Items.{items-stand}
 
 -- the record with other items
 abbrev pub withItems : Rec → List (List ℕ) → List (List (List ℕ)) → Rec
@@ -47,15 +48,6 @@ module _ (r : Rec) (cs : List (List ℕ)) (its : List (List (List ℕ))) (d : Li
       let p2 : take (length (join cs)) (drop (at + 12) d) ≡ join cs = rw drop-drop at (p .1) in
       rw (p .0, p2, ← k) (simp (append-assoc, append-nil))
 
-  -- the items behind their count
-  pub items-at : joins its ++ rest ≡ drop (at + (14 + length (join cs))) d
-  unfolding write spell
-  items-at =
-      let f : List ℕ = toBe 4 (r .stamp) ++ (toBe 2 (r .type) ++ (toBe 2 (r .sub) ++ (toBe 4 (length (join cs ++ (toBe 2 (length its) ++ joins its))) ++ (join cs ++ toBe 2 (length its))))) in
-      let e : f ++ (joins its ++ rest) ≡ drop at d = simp append-assoc (simp (append-assoc, append-nil) at lie) in
-      let l : length f ≡ 14 + length (join cs) = simp (length-append, length-toBe) (omega arith) in
-      sym (drop-at f (joins its ++ rest) (14 + length (join cs)) l) ∙ rw e (drop-drop (14 + length (join cs)) at d)
-
 pub size-items : (r : Rec) (cs : List (List ℕ)) (its : List (List (List ℕ))) → size (withItems r cs its) ≡ 14 + length (join cs) + length (joins its)
 unfolding spell
 size-items r cs its = simp (length-append, length-toBe) (omega arith)
@@ -77,29 +69,27 @@ pub record Held (d : List ℕ) (at : ℕ) (r : Rec) (item : Fmt) (a n : ℕ) : T
 
 module _ (d : List ℕ) (at : ℕ) (r : Rec) (rest : List ℕ) (lie : write r ++ rest ≡ drop at d) (f g : Fmt) (p : Part) (n : ℕ)
     (reach : p .at + p .size ≡ size r) where
-  held-items : (cs : List (List ℕ)) (its : List (List (List ℕ))) → r .body ≡ listed cs its → length its < 65536 → AllFits g its → put.items n (within (drop at d) p) ≡ put.items (length its) (joins its)
+  held-items : (cs : List (List ℕ)) (its : List (List (List ℕ))) → r .body ≡ listed cs its → BodyFits (many f g) (listed cs its) → put.items n (within (drop at d) p) ≡ tailOf (listed cs its)
       → Held d at r g (p .at) n
-  held-items cs its e few fit t =
+  unfolding BodyFits
+  held-items cs its e fits t =
       let er : r ≡ withItems r cs its = ap (λ (b : Body). record { stamp = r .stamp; type = r .type; sub = r .sub; body = b }) e in
-      let k : n ≡ length its = cc in
-      let w : take (p .size) (drop (p .at) (drop at d)) ≡ joins its = cc in
       let z : size r ≡ 14 + length (join cs) + length (joins its) = ap (λ (x : Rec). size x) er ∙ size-items r cs its in
-      let ls : size r + length rest ≡ length d - at = ap (λ (x : ℕ). x + length rest) (sym (length-write r)) ∙ sym (length-append (write r) rest) ∙ ap length lie ∙ length-drop at d in
-      let b : p .size ≤ length (drop (p .at) (drop at d)) = simp length-drop (omega arith) in
-      let l : p .size ≡ length (joins its) = sym (length-take-le (p .size) (drop (p .at) (drop at d)) b) ∙ ap length w in
-      let a : p .at ≡ 14 + length (join cs) = omega arith in
+      let ls : size r + length rest ≡ length (drop at d) = ap (λ (x : ℕ). x + length rest) (sym (length-write r)) ∙ sym (length-append (write r) rest) ∙ ap length lie in
+      let i = items-stand (drop at d) f g (listed cs its) fits p n t (omega arith) in
+      let a : p .at ≡ 14 + length (join cs) = omega (arith, i .ends) in
       let there : write (withItems r cs its) ++ rest ≡ drop at d = subst (λ (x : Rec). write x ++ rest ≡ drop at d) er lie in
-      let q = lie-of g n (drop (at + p .at) d) its rest (record { fits = fit; many = sym k; lie = rw a (items-at r cs its d at rest there) }) in
+      let q = lie-of g n (drop (at + p .at) d) its (i .rest) (rw drop-drop at (i .here)) in
       let v : length (join cs) ≡ p .at - 14 = omega arith in
       record {
         lie = q .0;
-        few = rw k few;
+        few = rw (i .here .many) at (fits .1);
         fields = cs;
         starts = a;
         body = rw (q .1) e;
-        fit = rw (q .1) fit;
-        many = rw (q .1) (sym k);
-        all = rw (q .1) (omega arith);
+        fit = rw (q .1) (fits .2);
+        many = rw (q .1) (i .here .many);
+        all = rw (q .1) (i .ends ∙ reach);
         other = λ jts. items-left r cs its d at rest there jts ∙ ap (λ (x : ℕ). itemsLeft d at x jts) v;
       }
 
@@ -108,4 +98,4 @@ module _ (d : List ℕ) (at : ℕ) (r : Rec) (rest : List ℕ) (lie : write r ++
   held h t = go (r .body) refl h t
     where
       go : (b : Body) → r .body ≡ b → BodyFits (many f g) b → put.items n (within (drop at d) p) ≡ tailOf b → Held d at r g (p .at) n
-      go (listed cs its) e h t = held-items cs its e (h .1) (h .2) t
+      go (listed cs its) e h t = held-items cs its e h t

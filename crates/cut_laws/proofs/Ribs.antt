@@ -33,9 +33,9 @@ use Rattle.form_spec.specs.Found.{items}
 use Rattle.cut_spec.specs.Moved.{moved}
 use Rattle.cut_spec.specs.One.{Ranked, firstRec, cutOne, itemsLeft}
 use Rattle.cut_laws.proofs.Filled.{ranked-cut}
-use Rattle.cut_laws.proofs.Rest.{Rested, rested}
+use Rattle.record_laws.proofs.Rest.{Rested, rested}
 use Rattle.cut_laws.proofs.Shows.{Shows, shows}
-use Rattle.cut_laws.proofs.Wrote.{wrote}
+use Rattle.record_laws.proofs.KindBy.{kind-by}
 use Rattle.cut_laws.proofs.Items.{withItems, Held, held}
 
 -- ---- one record, for every layout
@@ -124,7 +124,7 @@ module _ (longest from to : ℕ) (ms newIndexes d : List ℕ) (at : ℕ) where
     rib-left h e q =
         let r : Rec = firstRec (layout longest) st (drop at d) in
         let w = shows longest d oc at more t st tells (Good h (Rib e)) q refl in
-        let k = wrote (kind (r .type) (r .sub)) 3 (w .same .whose) (omega arith) in
+        let k = kind-by (kind (r .type) (r .sub)) 3 (w .same .whose) (omega arith) in
         entries-left st ranked (Good h (Rib e)) w h e (ribHead (k .0) (end 0)) (ap (layoutFor longest) (k .1)) (w .same .timed) (subst Rested q (rested longest t (drop at d))) (w .same .gives .tail)
 
     pub generic-left : (h : Header) (f : Scope) (e : Routes) → readOne longest t (drop at d) ≡ Good h (RibGeneric f e)
@@ -133,7 +133,7 @@ module _ (longest from to : ℕ) (ms newIndexes d : List ℕ) (at : ℕ) where
     generic-left h f e q =
         let r : Rec = firstRec (layout longest) st (drop at d) in
         let w = shows longest d oc at more t st tells (Good h (RibGeneric f e)) q refl in
-        let k = wrote (kind (r .type) (r .sub)) 4 (w .same .whose) (omega arith) in
+        let k = kind-by (kind (r .type) (r .sub)) 4 (w .same .whose) (omega arith) in
         entries-left st ranked (Good h (RibGeneric f e)) w h e (genericHead (end 0)) (ap (layoutFor longest) k) (w .same .timed) (subst Rested q (rested longest t (drop at d))) (w .same .gives .tail)
 
 -- a table of n peers that is told is in force

@@ -28,9 +28,9 @@ use Rattle.form_spec.specs.Found.{items}
 use Rattle.cut_spec.specs.Moved.{newIndexesFrom}
 use Rattle.cut_spec.specs.One.{stateAt, Ranked, firstRec, cutOne, itemsLeft}
 use Rattle.cut_laws.proofs.Filled.{filled}
-use Rattle.cut_laws.proofs.Rest.{Rested, rested}
+use Rattle.record_laws.proofs.Rest.{Rested, rested}
 use Rattle.cut_laws.proofs.Shows.{Shows, shows}
-use Rattle.cut_laws.proofs.Wrote.{wrote}
+use Rattle.record_laws.proofs.KindBy.{kind-by}
 use Rattle.cut_laws.proofs.Items.{withItems, Held, held}
 
 left-table : (lay : ℕ → ℕ → Layout) (c : Cut) (st : St) (r : Rec) (f g : Fmt) (cs : List (List ℕ)) (its : List (List (List ℕ))) → lay (r .type) (r .sub) ≡ table f g → r .body ≡ listed cs its
@@ -67,7 +67,7 @@ module _ (longest from to : ℕ) (ms d : List ℕ) (oc : Octets d) (at : ℕ) (m
   table-left h p e =
       let r : Rec = firstRec (layout longest) st (drop at d) in
       let w = shows longest d oc at more t st tells (Good h (PeerTable p)) e refl in
-      let k = wrote (kind (r .type) (r .sub)) 2 (w .same .whose) (omega arith) in
+      let k = kind-by (kind (r .type) (r .sub)) 2 (w .same .whose) (omega arith) in
       let l : layout longest (r .type) (r .sub) ≡ table (tableHead (end 0)) peer = ap (layoutFor longest) k in
       let reach : p .peers .at + p .peers .size ≡ size r = subst Rested e (rested longest t (drop at d)) ∙ w .ends in
       let fits : BodyFits (many (tableHead (end 0)) peer) (r .body) = subst (λ (x : Layout). BodyFits (plan st x) (r .body)) l (w .read .valid .fits) in

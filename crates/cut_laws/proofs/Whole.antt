@@ -40,7 +40,7 @@ use Rattle.record_spec.specs.Again.{clock}
 use Rattle.page_laws.proofs.Choice.{Bgp, kind-says}
 use Rattle.cut_spec.specs.Cut.{Cut, mem, cutting, when, cutBody, rebody}
 use Rattle.cut_spec.specs.One.{firstRec, cutOne}
-use Rattle.cut_laws.proofs.Wrote.{wrote, wrote-unread}
+use Rattle.record_laws.proofs.KindBy.{kind-by, kind-by-unread}
 use Rattle.cut_laws.proofs.Shows.{Shows, shows}
 
 -- ---- the peer's AS number in the fields
@@ -100,7 +100,7 @@ module _ (longest from to : ℕ) (ms d : List ℕ) (oc : Octets d) (at : ℕ) (m
   unfolding layout layoutFor
   unread-left h p e =
       let w = shows longest d oc at more t st tells (Good h (Unread p)) e refl in
-      let k = wrote-unread (kind (r .type) (r .sub)) (microSize (clock h)) (w .same .whose) in
+      let k = kind-by-unread (kind (r .type) (r .sub)) (microSize (clock h)) (w .same .whose) in
       let l : layout longest (r .type) (r .sub) ≡ unread _ = ap (layoutFor longest) (k .1) in
       whole (Good h (Unread p)) w _ (rw (w .same .timed) (left-unread (layout longest) c st r _ l))
 
@@ -109,7 +109,7 @@ module _ (longest from to : ℕ) (ms d : List ℕ) (oc : Octets d) (at : ℕ) (m
   unfolding layout layoutFor
   table-dump-left h f e =
       let w = shows longest d oc at more t st tells (Good h (TableDump f)) e refl in
-      let k = wrote (kind (r .type) (r .sub)) 1 (w .same .whose) (omega arith) in
+      let k = kind-by (kind (r .type) (r .sub)) 1 (w .same .whose) (omega arith) in
       let l : layout longest (r .type) (r .sub) ≡ fields (tableDump (k .0)) = ap (layoutFor longest) (k .1) in
       let g : find peerAs (tableDump (k .0)) (frontOf (r .body)) ≡ some (toBe 2 (f .peer)) = rw (← (w .same .gives .front)) (find-route (k .0) _ _ _ _ _ (f .peer) _ _ _ _) in
       let n : be (toBe 2 (f .peer)) ≡ f .peer = be-toBe 2 (f .peer) (w .same .gives .fit .1 .1 .1 .1 .1 .1 .1 .0) in
@@ -131,7 +131,7 @@ module _ (longest from to : ℕ) (ms d : List ℕ) (oc : Octets d) (at : ℕ) (m
   unfolding layout layoutFor
   change-left h e v q =
       let w = shows longest d oc at more t st tells (Good h (Change e v)) q refl in
-      let k = wrote (kind (r .type) (r .sub)) 5 (w .same .whose) (omega arith) in
+      let k = kind-by (kind (r .type) (r .sub)) 5 (w .same .whose) (omega arith) in
       let b : Bgp (r .type) (k .0) = rw (k .2) at (kind-says (r .type) (r .sub)) in
       session-left (Good h (Change e v)) w h (ap (λ (z : Header). z .ty) (w .same .headed)) (w .same .timed) (k .0) (k .1) _ b (ap (layoutFor longest) (k .2)) _ (e .peer) _ (w .same .gives .fit) (w .same .gives .front)
 
@@ -140,6 +140,6 @@ module _ (longest from to : ℕ) (ms d : List ℕ) (oc : Octets d) (at : ℕ) (m
   unfolding layout layoutFor
   message-left h e v q =
       let w = shows longest d oc at more t st tells (Good h (Message e v)) q refl in
-      let k = wrote (kind (r .type) (r .sub)) 6 (w .same .whose) (omega arith) in
+      let k = kind-by (kind (r .type) (r .sub)) 6 (w .same .whose) (omega arith) in
       let b : Bgp (r .type) (k .0) = rw (k .2) at (kind-says (r .type) (r .sub)) in
       session-left (Good h (Message e v)) w h (ap (λ (z : Header). z .ty) (w .same .headed)) (w .same .timed) (k .0) (k .1) _ b (ap (layoutFor longest) (k .2)) _ (e .peer) _ (w .same .gives .fit) (w .same .gives .front)

@@ -10,7 +10,8 @@ use lib.Seq.{drop-drop, length-take-le}
 use lib.Dec.{ltb, eqb}
 use borrow.Author.Tests.{ltb-true, ltb-false, lt-ltb, le-ltb}
 use Rattle.form_spec.specs.Octets.{be}
-use Rattle.form_spec.specs.Fmt.{Out, bad, good, bind, refuseIf, Fmt, end, test, field, read, join, overAt}
+use Rattle.form_spec.specs.Fmt.{Out, bad, good, bind, refuseIf, Fmt, end, test, field, read, Fits, join, overAt}
+use Rattle.form_laws.proofs.Fmt.{complete}
 use Rattle.form_spec.specs.Pass.{Seen, note, placeOf, sizeOf, fieldOctets, pass, _⨾_, afterOf}
 
 -- the fields of a format that were read from offset i on
@@ -19,6 +20,13 @@ seen (end b) i cs = []
 seen (test n b f) i cs = seen f i cs
 seen (field x l b k) i [] = []
 seen (field x l b k) i (c ∷ cs) = note x i (length c) (i + length c) (be c) (seen (k c) (i + length c) cs)
+
+-- the first field of a format, which has one, has octets
+unfoldable pub Opens : Fmt → Type 0
+Opens (end b) = ⊥
+Opens (test n b f) = ⊥
+Opens (field x zero b k) = ⊥
+Opens (field x (suc l) b k) = Unit
 
 module _ {A : Type 0} where
   unfoldable pub outcome : (List Seen → ℕ → ℕ → A) → (ℕ → ℕ → A) → Fmt → ℕ → Out (List (List ℕ)) → A
@@ -56,6 +64,27 @@ module _ {A : Type 0} where
           let s : i + l ≤ length m = ltb-false _ _ e in
           let g : l ≤ length (drop i m) = rw length-drop (omega arith) in
           rw (le-ltb _ _ g, drop-drop) (r s ∙ outcome-keep to fault x b i l k (take l (drop i m)) (read (k (take l (drop i m))) (i + l) (drop (i + l) m)) (length-take-le l (drop i m) g))
+
+  -- past the end of m too, where a first field must have octets
+  pub pass-opens : (to : List Seen → ℕ → ℕ → A) (fault : ℕ → ℕ → A) (f : Fmt) (m : List ℕ) (i : ℕ) → Opens f → pass to fault f m i ≡ outcome to fault f i (read f i (drop i m))
+  unfolding pass read outcome Opens
+  pass-opens to fault (field x (suc l) b k) m i o = go (ltb (length m) i) refl
+    where
+      go : (t : Bool) → ltb (length m) i ≡ t → pass to fault (field x (suc l) b k) m i ≡ outcome to fault (field x (suc l) b k) i (read (field x (suc l) b k) i (drop i m))
+      go true e =
+          let h : length m < i = ltb-true (length m) i e in
+          let p : length m < i + suc l = omega arith in
+          let q : length (drop i m) < suc l = rw length-drop (omega arith) in
+          rw (lt-ltb _ _ p, lt-ltb _ _ q)
+      go false e = pass-read to fault (field x (suc l) b k) m i (ltb-false (length m) i e)
+
+  -- where the fields of the format stand, there is no fault
+  pub pass-fits : (to : List Seen → ℕ → ℕ → A) (fault : ℕ → ℕ → A) (f : Fmt) (m : List ℕ) (i : ℕ) (cs : List (List ℕ)) (r : List ℕ) → i ≤ length m → Fits f cs → join cs ++ r ≡ drop i m
+      → pass to fault f m i ≡ to (seen f i cs) (i + length (join cs)) (i + length (join cs) - overAt f cs)
+  unfolding outcome
+  pass-fits to fault f m i cs r h fit e =
+      let o : read f i (drop i m) ≡ good cs r = rw (← e) (complete f i cs r fit) in
+      pass-read to fault f m i h ∙ ap (outcome to fault f i) o
 
   -- one format after another
   pub pass-then : (to : List Seen → ℕ → ℕ → A) (fault : ℕ → ℕ → A) (f g : Fmt) (m : List ℕ) (i : ℕ)

@@ -5,6 +5,8 @@ ghost use Rattle.form_spec.specs.Pass.{pass, whole, times, numberOf};
 ghost use Rattle.page_spec.specs.Peers.{peerRest, peerSized, peer, peerTable};
 ghost use Rattle.record_spec.specs.Fields.{partOf, restFrom};
 ghost use Rattle.record_spec.specs.Fields as show;
+ghost use Rattle.record_spec.specs.Answer.{peerFault, peerEnd};
+ghost use Rattle.record_spec.specs.Items.{peerAt, Finds};
 ghost use Rattle.page_spec.specs.Names.{peerAs, peerAddress};
 ghost use Rattle.record_spec.specs.declared.Shown.the-variants.{Refused};
 ghost use Rattle.record_spec.specs.declared.Peer.the-variants.{Of, Bad};
@@ -44,7 +46,7 @@ fn peer_sized(m: &[u8], at: usize, size: usize, kind: u64, id: u64) -> Peer
 
 // The peer that starts at `at`.
 pub fn peer_at(m: &[u8], at: usize) -> Peer
-    ensures { λ r. ⌜ r ≡ pass show.peer Bad peer (now (m .entry)) at ⌝ }
+    ensures { λ r. ⌜ (r ≡ peerAt (now (m .entry)) at) × Finds peer (now (m .entry)) at (peerFault r) (peerEnd r) ⌝ }
 {
     let Num::Value(kind, a) = field(m, at, 1) else {
         return Peer::Bad(5, at);

@@ -6,6 +6,12 @@ pub mod Behind
 pub mod Unread
 pub mod Tables
 pub mod One
+pub mod Rest
+pub mod KindBy
+pub mod Going
+pub mod Item
+pub mod Items
+pub mod Finds
 pub mod Accepts
 pub mod Numbers
 pub mod Only

@@ -87,7 +87,7 @@ unfolding readRec numAt
 rec-header longest st s h = rw (le-ltb (length s) 12 h, read-header s h, length-drop 12 s)
 
 -- a number in the first octets
-numAt-first : (m r : List ℕ) (i w : ℕ) → i + w ≤ length m → numAt (m ++ r) i w ≡ numAt m i w
+pub numAt-first : (m r : List ℕ) (i w : ℕ) → i + w ≤ length m → numAt (m ++ r) i w ≡ numAt m i w
 unfolding numAt
 numAt-first m r i w h =
     let a : i ≤ length m = omega arith in

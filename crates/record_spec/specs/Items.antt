@@ -3,9 +3,10 @@ use mathlib.Core.Path.{_≡_}
 use mathlib.Core.List.{List, [], _∷_}
 use Prim.Native.Nat.{ℕ, zero, suc, _+_}
 use lib.ListN.{length, take, drop, getD}
-use Rattle.form_spec.specs.Fmt.{join}
+use Rattle.form_spec.specs.Fmt.{Out, bad, good, Fmt, read, join}
 use Rattle.form_spec.specs.Body.{joins}
 use Rattle.form_spec.specs.Pass.{pass}
+use Rattle.form_spec.specs.Found.{faultNumber}
 use Rattle.form_spec.specs.Shape.{number}
 use Rattle.page_spec.specs.Peers.{peer}
 use Rattle.page_spec.specs.Rib.{entry}
@@ -23,6 +24,15 @@ peerAt m at = pass show.peer peers.Bad peer m at
 abbrev pub entryAt : List ℕ → (at count : ℕ) → Entry
 entryAt m at n = pass show.entry entries.Bad (entry n) m at
 
+-- ---- an item as its grammar's reader finds it: a fault's number, or 0, and the fault's place, or where the item ends
+
+abbrev pub endIn : (at : ℕ) → Out (List (List ℕ)) → ℕ
+endIn at (bad n p) = p
+endIn at (good c q) = at + length (join c)
+
+abbrev pub Finds : Fmt → List ℕ → (at fault end : ℕ) → Type 0
+Finds f m at n e = (n ≡ faultNumber (read f at (drop at m))) × (e ≡ endIn at (read f at (drop at m)))
+
 -- ---- n times from `at` on: `one` shows the item at an offset, and `end` where it ends
 
 abbrev pub met : {A : Type 0} (one : ℕ → A) (end : A → ℕ) (n at : ℕ) → List A
@@ -38,6 +48,11 @@ metEnd one end (suc n) at = metEnd one end n (end (one at))
 abbrev pub standing : {A : Type 0} (of : (at : ℕ) → List (List ℕ) → A) (at : ℕ) → List (List (List ℕ)) → List A
 standing of at [] = []
 standing of at (c ∷ cs) = of at c ∷ standing of (at + length (join c)) cs
+
+-- P holds of every one
+abbrev pub Each : {A : Type 0} (P : A → Type 0) → List A → Type 0
+Each P [] = Unit
+Each P (x ∷ xs) = P x × Each P xs
 
 -- where field k of an item lies
 abbrev pub fieldIn : (k at : ℕ) → List (List ℕ) → Part

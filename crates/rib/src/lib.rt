@@ -6,6 +6,8 @@ ghost use Rattle.form_spec.specs.Pass.{pass, whole, times};
 ghost use Rattle.page_spec.specs.Rib.{tiling, entry, entryList, prefix, rib, ribGeneric};
 ghost use Rattle.record_spec.specs.Fields.{partOf, routesOf};
 ghost use Rattle.record_spec.specs.Fields as show;
+ghost use Rattle.record_spec.specs.Answer.{entryFault, entryEnd};
+ghost use Rattle.record_spec.specs.Items.{entryAt, Finds};
 ghost use Rattle.page_spec.specs.Names.{attributeOctets};
 ghost use Rattle.rib.specs.Tail.{tail};
 ghost use Rattle.record_spec.specs.declared.Shown.the-variants.{Refused};
@@ -38,7 +40,7 @@ fn attributes_at(m: &[u8], at: usize, n: usize, index: u64, originated: u64) -> 
 
 // The entry that starts at `at`, where the table in force has so many peers.
 pub fn entry_at(m: &[u8], at: usize, peers: u64) -> Entry
-    ensures { λ r. ⌜ r ≡ pass show.entry Bad (entry peers) (now (m .entry)) at ⌝ }
+    ensures { λ r. ⌜ (r ≡ entryAt (now (m .entry)) at peers) × Finds (entry peers) (now (m .entry)) at (entryFault r) (entryEnd r) ⌝ }
 {
     let Num::Value(index, a) = field(m, at, 2) else {
         return Entry::Bad(5, at);

@@ -12,6 +12,10 @@
 --   Tells          record_spec/specs/Tells   what a reader is told of the table in force
 --   Agrees         record_spec/specs/Agrees  refused with the same number and place, or shown with every field as it is in the octets
 --   again          record_spec/specs/Again   what is shown, handed to a writer
+--   Meets          record_spec/specs/Items   what going from item to item meets, against the items of a record; with `peerAt`, `peerOf` and
+--                                            the like, which say what is shown at an offset and what of an item's fields
+--   answerAt       dagsumilat_spec/specs/RecordAnswers  what the call for a record of a dump answers
+--   unjudgedAt     dagsumilat_spec/specs/Unjudged  what the call for an entry shows
 --   Fair           record_laws/proofs/Written  fields of the form that a writer takes
 --   leftOf         cut_spec/specs/Answer     what is left of a dump, by `cut` of cut_spec/specs/Cut
 use mathlib.Core.Path.{_≡_, sym, _∙_}
@@ -20,19 +24,32 @@ use mathlib.Core.List.{List, [], _++_}
 use Prim.Native.Nat.{ℕ, suc, _+_, _≤_, _<_, min, max}
 use lib.ListN.{length, take, drop}
 use Rattle.form_spec.specs.Octets.{Octets}
-use Rattle.form_spec.specs.Shape.{Layout, St, noTable}
+use Rattle.form_spec.specs.Fmt.{good}
+use Rattle.form_spec.specs.Body.{AllFits}
+use Rattle.form_spec.specs.Shape.{Layout, St, noTable, itemsOf}
 use Rattle.form_spec.specs.Record.{Rec, write, readRec, Valid}
 use Rattle.form_spec.specs.Dump.{Splits, walkFrom, nexts}
 use Rattle.form_spec.specs.Put.{Given, octets, recordRefusal}
 use Rattle.page_spec.specs.Layout.{layout}
+use Rattle.page_spec.specs.Rib.{entry}
 use Rattle.page_spec.specs.declared.Kind.{Kind}
 use Rattle.page_spec.specs.declared.Kind.the-variants as chosen
 use Rattle.record_spec.specs.declared.Table.{Table}
 use Rattle.record_spec.specs.declared.Shown.{Shown}
-use Rattle.record_spec.specs.declared.Shown.the-variants.{Nothing}
+use Rattle.record_spec.specs.declared.Shown.the-variants.{Nothing, Good}
+use Rattle.record_spec.specs.declared.Header.{Header}
+use Rattle.record_spec.specs.declared.Peers.{Peers}
+use Rattle.record_spec.specs.declared.Peer.{Peer}
+use Rattle.record_spec.specs.declared.Entry.{Entry}
+use Rattle.record_spec.specs.declared.Routes.{Routes}
+use Rattle.record_spec.specs.declared.Scope.{Scope}
+use Rattle.record_spec.specs.declared.Body.the-variants.{PeerTable, Rib, RibGeneric}
+use Rattle.record_spec.specs.declared.Table.the-variants.{Holds}
+use Rattle.record_spec.specs.Table.{stateOf}
 use Rattle.record_spec.specs.One.{readOne}
-use Rattle.record_spec.specs.Answer.{fault, place}
+use Rattle.record_spec.specs.Answer.{fault, place, end, peerFault, peerEnd, entryFault, entryEnd}
 use Rattle.record_spec.specs.Reads.{Reads}
+use Rattle.record_spec.specs.Items.{peerAt, entryAt, met, peerOf, entryOf, Each, Meets}
 use Rattle.room_spec.specs.Answer as written
 use Rattle.room_spec.specs.declared.Written.{Written}
 use Rattle.room_spec.specs.declared.Written.the-variants as answer
@@ -48,17 +65,23 @@ use Rattle.walk_spec.specs.Answer.{Steps}
 use Rattle.walk_spec.specs.declared.Step.{Step}
 use Rattle.cut_spec.specs.Cut.{mem}
 use Rattle.cut_spec.specs.Answer.{leftOf, cutAnswer, cutLeaves, Cuts}
+use Rattle.dagsumilat_spec.specs.declared.RecordAnswer.{RecordAnswer}
+use Rattle.dagsumilat_spec.specs.RecordAnswers.{tableByCount, answerAt}
+use Rattle.dagsumilat_spec.specs.Unjudged.{unjudgedAt}
 use Rattle.room_laws.proofs.Room as room
 use Rattle.record_laws.proofs.One as one
 use Rattle.record_laws.proofs.Numbers as numbers
 use Rattle.record_laws.proofs.Accepts as accepts
 use Rattle.record_laws.proofs.Restores as restores
 use Rattle.record_laws.proofs.Written as writing
+use Rattle.record_laws.proofs.Item as item
+use Rattle.record_laws.proofs.Items as items
 use Rattle.walk_laws.proofs.Demand2 as dumps
 use Rattle.walk_laws.proofs.Steps as steps
 use Rattle.cut_laws.proofs.Answers as answers-of
 use Rattle.cut_laws.proofs.Demand3 as cuts
 use Rattle.cut_laws.proofs.Orders as orders
+use Rattle.dagsumilat_laws.proofs.Items as calls
 
 -- ==== Demand 1. Any bytes may arrive, and any call may be made with them.
 --
@@ -131,6 +154,45 @@ module _ (longest : ℕ) where
       → Writes (only n (chosen.Refused (suc a) p) longest) st g out (answer.Octets k) held
       → let y = readOne longest t held in (fault y ≡ 0) × (place y ≡ k) × (writerOf y ≡ n) × (again held y ≡ g)
   read-back t st told n a p g fair out held k o w = let b = writing.read-back longest t st told n a p g fair st (λ e. e) out held k o w in (b .accepted, b .ends, b .whose, b .given)
+
+  -- the peers of a table and the entries of a RIB record: going `count` times from the first, each time to where the one shown ends, meets
+  -- the record's own items, each with its fields, and ends where the record ends
+  module _ (s : List ℕ) (o : Octets s) (r : Rec) (q : List ℕ) (h : Header) where
+    pub peers-are-met : (t : Table) (st : St) → Tells t st → readRec (layout longest) st 0 s ≡ good r q → (p : Peers) → readOne longest t s ≡ Good h (PeerTable p)
+        → Meets s (peerAt s) peerEnd peerOf (p .count) (p .peers .at) (end h) (itemsOf (r .body))
+    peers-are-met t st told e p z = items.peers-met longest t st told s o r q e h p z
+
+    pub entries-are-met : (n : ℕ) (st : St) → Tells (Holds n) st → readRec (layout longest) st 0 s ≡ good r q → (x : Routes) → readOne longest (Holds n) s ≡ Good h (Rib x)
+        → Meets s (λ a. entryAt s a n) entryEnd entryOf (x .count) (x .entries .at) (end h) (itemsOf (r .body))
+    entries-are-met n st told e x z = items.entries-met longest n st told s o r q e h x z
+
+    pub generic-entries-are-met : (n : ℕ) (st : St) → Tells (Holds n) st → readRec (layout longest) st 0 s ≡ good r q → (f : Scope) (x : Routes) → readOne longest (Holds n) s ≡ Good h (RibGeneric f x)
+        → Meets s (λ a. entryAt s a n) entryEnd entryOf (x .count) (x .entries .at) (end h) (itemsOf (r .body))
+    generic-entries-are-met n st told e f x z = items.generic-entries-met longest n st told s o r q e h f x z
+
+  -- the same by the calls from C, at offsets of a whole dump; an entry's index and attributes, which its call does not judge, are good
+  module _ (table : ℕ) (d : List ℕ) (o : Octets d) (at : ℕ) where
+    abbrev a : RecordAnswer
+    a = answerAt longest table d at
+
+    abbrev Read : Rec → Type 0
+    Read r = (q : List ℕ) × (readRec (layout longest) (stateOf (tableByCount table)) 0 (drop at d) ≡ good r q)
+
+    pub calls-meet-peers : a .fault ≡ 0 → at < length d → a .ty ≡ 13 → a .subtype ≡ 1
+        → (r : Rec) × Read r × Meets d (peerAt d) peerEnd peerOf (a .count) (at + a .items) (a .place) (itemsOf (r .body))
+    calls-meet-peers e more y u = calls.table-met longest table d o at e more y u
+
+    pub calls-meet-entries : a .fault ≡ 0 → at < length d → a .ty ≡ 13 → (a .subtype ≡ 1 → ⊥)
+        → (r : Rec) × Read r × AllFits (entry table) (itemsOf (r .body)) × Meets d (unjudgedAt d) entryEnd entryOf (a .count) (at + a .items) (a .place) (itemsOf (r .body))
+    calls-meet-entries e more y u = calls.rib-met longest table d o at e more y u
+
+  -- nothing that is met so is a fault
+  module _ (m : List ℕ) (n at stop : ℕ) (its : List (List (List ℕ))) where
+    pub met-peers-are-good : (one : ℕ → Peer) → Meets m one peerEnd peerOf n at stop its → Each (λ p. peerFault p ≡ 0) (met one peerEnd n at)
+    met-peers-are-good one w = item.no-peer-fault m n at stop its one w
+
+    pub met-entries-are-good : (one : ℕ → Entry) → Meets m one entryEnd entryOf n at stop its → Each (λ e. entryFault e ≡ 0) (met one entryEnd n at)
+    met-entries-are-good one w = item.no-entry-fault m n at stop its one w
 
   -- ==== Demand 3. A cut takes a window and a list of AS numbers; what it leaves is `leftOf`, the dump that document 01 defines.
 

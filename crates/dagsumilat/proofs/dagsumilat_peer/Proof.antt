@@ -18,7 +18,7 @@ start c = c .before .before
 -- the words that tell what was read are the promised ones
 answered : (c : tie.After-peer-at) (y : Peer) → c .peer-at .result ≡ y → let a = start c .args in
     peerWords (now (a .answer)) y ≡ peerWords (now (a .answer)) (pass show.peer peers.Bad page.peer (now (a .dump)) (a .at))
-answered c y e = ap (peerWords (now (start c .args .answer))) (sym e ∙ c .peer-at .ensures)
+answered c y e = ap (peerWords (now (start c .args .answer))) (sym e ∙ c .peer-at .ensures .0)
 
 peer-at-requires : tie.Need-peer-at-requires
 peer-at-requires c κs = search needs

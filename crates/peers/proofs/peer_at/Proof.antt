@@ -1,5 +1,6 @@
 use Rattle.page_spec.specs.Peers.{peer}
 use Rattle.octets_laws.proofs.Rules.{flow}
+use Rattle.record_laws.proofs.Finds.{peer-finds}
 use borrow.Author.Needs.{needs}
 use Rattle.peers.proofs.peer_at.Statement.{statement}
 use Rattle.peers.proofs.peer_at.Tie as tie
@@ -15,7 +16,7 @@ enum-told c = search needs
 
 returns : tie.Need-returns
 unfolding peer
-returns c = search flow depth 12
+returns c = peer-finds _ _ _ (search flow depth 12)
 
 field-requires-2 : tie.Need-field-requires-2
 field-requires-2 c κs = search needs
@@ -28,21 +29,21 @@ enum-told-2 c = search needs
 
 returns-2 : tie.Need-returns-2
 unfolding peer
-returns-2 c = search flow depth 12
+returns-2 c = peer-finds _ _ _ (search flow depth 12)
 
 peer-sized-requires : tie.Need-peer-sized-requires
 peer-sized-requires c κs = search needs
 
 returns-3 : tie.Need-returns-3
 unfolding peer
-returns-3 c = search flow depth 12
+returns-3 c = peer-finds _ _ _ (search flow depth 12)
 
 peer-sized-requires-2 : tie.Need-peer-sized-requires-2
 peer-sized-requires-2 c κs = search needs
 
 returns-4 : tie.Need-returns-4
 unfolding peer
-returns-4 c = search flow depth 12
+returns-4 c = peer-finds _ _ _ (search flow depth 12)
 
 pub peer-at-spec : {M : Type 1} → statement M
 peer-at-spec =

@@ -1,0 +1,2 @@
+pub mod Unjudged
+pub mod Items
