@@ -1,4 +1,4 @@
--- An entry's fields where its record was judged before: neither the index nor the attributes are judged again (page/specs/Rib.entry does).
+-- An entry's fields where its record was judged before: neither the index nor the attributes are judged again (page_spec/specs/Rib.entry does).
 use mathlib.Core.List.{List}
 use Prim.Native.Nat.{ℕ}
 use Rattle.form_spec.specs.Fmt.{Fmt, end}
