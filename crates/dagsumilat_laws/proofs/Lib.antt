@@ -1,2 +1,3 @@
 pub mod Unjudged
 pub mod Items
+pub mod Numbers
