@@ -1,5 +1,5 @@
 -- Reading what a writer wrote shows the very values that it was given.
-use mathlib.Core.Path.{_≡_, refl, sym, _∙_}
+use mathlib.Core.Path.{_≡_, refl, sym, subst, _∙_}
 use mathlib.Core.List.{List, _++_}
 use Prim.Native.Nat.{ℕ, suc}
 use lib.ListN.{length, drop}
@@ -14,6 +14,7 @@ use Rattle.record_spec.specs.declared.Table.{Table}
 use Rattle.record_spec.specs.Answer.{fault, place}
 use Rattle.record_spec.specs.One.{readOne}
 use Rattle.write_spec.specs.Only.{writer, only}
+use Rattle.room_spec.specs.Room.{Answers}
 use Rattle.room_spec.specs.declared.Written.the-variants as room
 use Rattle.room_laws.proofs.Room as laws
 use Rattle.write_spec.specs.Verdict.{writerAnswer, writerLeaves, Writes}
@@ -97,4 +98,8 @@ module _ (longest : ℕ) (t : Table) (st : St) (tells : Tells t st) (n a p : ℕ
   -- told of one table, reader and writer
   pub shows-written : (out : List ℕ) (k : ℕ) → Octets out → writerAnswer own st g out ≡ room.Octets k
       → (again (writerLeaves own st g out) (readOne longest t (writerLeaves own st g out)) ≡ g) × (place (readOne longest t (writerLeaves own st g out)) ≡ k)
-  shows-written out k oc e = let z = read-back st (λ d. d) out (writerLeaves own st g out) k oc (sym e, refl) in (z .given, z .ends)
+  shows-written out k oc e =
+      let n : ℕ = recordRefusal own st g in
+      let said = subst (Answers n 0 (octets g) out) e (laws.answers n 0 (octets g) out) in
+      let z = read-back st (λ d. d) out (writerLeaves own st g out) k oc (sym e, refl, said) in
+      (z .given, z .ends)
