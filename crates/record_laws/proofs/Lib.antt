@@ -15,3 +15,4 @@ pub mod Tails
 pub mod Written
 pub mod Fair
 pub mod ReadBack
+pub mod AsReader
