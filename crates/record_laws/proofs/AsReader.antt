@@ -5,15 +5,12 @@
 -- another layout (4, or 3), where a reader would go by that layout.
 -- `Placed`: every number goes into its field, and every part has its field's size. Else the octets of all later fields stand elsewhere, or
 -- there are no octets to read, and the number is that of the field in its turn, by `refusal` of form_spec/specs/Put: 5 for a part too short, 6
--- for one too long or a number too large.
+-- for one too long or a number too large. What it asks of each writer's parameters is in proofs/Placed, whose a record is in proofs/Own.
 use mathlib.Core.Path.{_≡_, refl, sym, ap, _∙_}
-use mathlib.Core.Logic.{_⊎_, inl, inr}
 use mathlib.Core.List.{List, [], _∷_, _++_, append-nil}
-use Prim.Native.Nat.{ℕ, suc, _<_}
+use Prim.Native.Nat.{ℕ, zero, suc, _<_}
 use native.Mathlib.Omega.{arith}
-use lib.Dec.{eqb}
 use lib.ListN.{length, length-append}
-use Rattle.form_spec.specs.Words.{choose, inRange}
 use Rattle.form_spec.specs.Shape.{Layout, St, noTable}
 use Rattle.form_spec.specs.Found.{faultNumber}
 use Rattle.form_spec.specs.Record.{readRec}
@@ -21,22 +18,22 @@ use Rattle.form_spec.specs.Put.{Given, octets, recordRefusal}
 use Rattle.form_spec.specs.Aligned.{Placed}
 use Rattle.form_laws.proofs.Octets.{length-toBe}
 use Rattle.form_laws.proofs.Refuses.{refuses-record}
-use Rattle.page_spec.specs.Layout.{kind12, kind13, kind, layout, unlisted}
+use Rattle.page_spec.specs.Layout.{layout, unlisted}
 use Rattle.page_spec.specs.declared.Kind.{Kind}
 use Rattle.page_spec.specs.declared.Kind.the-variants.{Refused}
-use Rattle.page_laws.proofs.Choice.{by-test}
 use Rattle.record_spec.specs.declared.Table.{Table}
 use Rattle.record_spec.specs.Table.{stateOf}
 use Rattle.record_spec.specs.Reads.{numberAt}
 use Rattle.room_spec.specs.declared.Written.{Written}
-use Rattle.room_spec.specs.Answer.{fault}
-use Rattle.room_spec.specs.Room.{numberFor}
+use Rattle.room_spec.specs.Answer.{fault, place}
+use Rattle.room_spec.specs.Room.{numberFor, placeFor}
 use Rattle.write_spec.specs.declared.Time.{Time}
 use Rattle.write_spec.specs.Times.{microSize}
-use Rattle.write_spec.specs.Only.{tableDumps, peerTables, ribs, genericRibs, changes, messages, unreads, writer, only, Own, onlySub, onlyType}
+use Rattle.write_spec.specs.Only.{tableDumps, peerTables, ribs, genericRibs, changes, messages, unreads, only, Own, onlySub, onlyType}
 use Rattle.write_spec.specs.Givens.{unreadGiven, tableDumpGiven, peerTableGiven, ribGiven, ribGenericGiven, changeGiven, messageGiven}
 use Rattle.write_spec.specs.Verdict.{Writes}
 use Rattle.record_laws.proofs.Only.{own-refusal, own-refusal-untold}
+use Rattle.record_laws.proofs.Own.{own-table-dump, own-peer-table, own-rib-generic}
 
 -- ---- the number of a record whose values are placed
 
@@ -57,27 +54,19 @@ module _ (longest : ℕ) (t : Table) where
   pub number-alone : (g : Given) → Placed (layout longest) (stateOf t) g → recordRefusal (layout longest) (stateOf t) g ≡ numberAt longest t (octets g)
   number-alone g h = rw (append-nil (octets g)) at (number-before g h [])
 
--- ---- whose records: type 12 has no other layout; of the peer table and of subtype 6 there is but one record
-
-own-route : (u : ℕ) → (writer (kind 12 u) ≡ tableDumps) ⊎ (kind 12 u ≡ unlisted)
-unfolding kind kind12 choose
-own-route u =
-    let whose : Kind → Type 0 = λ k. (writer k ≡ tableDumps) ⊎ (k ≡ unlisted) in
-    by-test whose (eqb u 1) _ _ (λ e. inl refl) (by-test whose (eqb u 2) _ _ (λ e. inl refl) (inr refl))
-
-own-table : writer (kind 13 1) ≡ peerTables
-unfolding kind kind13 choose
-own-table = refl
-
-own-generic : writer (kind 13 6) ≡ genericRibs
-unfolding kind kind13 choose inRange
-own-generic = refl
-
 -- ---- the law
 
 -- the number of a writer's answer r is the one that the reader, told of the table t, gives the record, then 15; the buffer was `out`
 abbrev pub AsRead : (longest : ℕ) (t : Table) (out : List ℕ) (r : Written) (g : Given) → Type 0
 AsRead longest t out r g = fault r ≡ numberFor (numberAt longest t (octets g)) (octets g) out
+
+-- its place is 0, whatever it was given
+pub writer-place : (l : ℕ → ℕ → Layout) (st : St) (g : Given) (out held : List ℕ) (r : Written) → Writes l st g out r held → place r ≡ 0
+writer-place l st g out held r w = w .2 .1 ∙ go (recordRefusal l st g)
+  where
+    go : (n : ℕ) → placeFor n 0 ≡ 0
+    go zero = refl
+    go (suc n) = refl
 
 -- a writer answers r, and its buffer is `held` now. What it does not list it refuses with the number suc a and the place p
 module _ (longest : ℕ) (t : Table) (out held : List ℕ) (r : Written) where
@@ -106,12 +95,12 @@ module _ (longest : ℕ) (t : Table) (out held : List ℕ) (r : Written) where
       → let g = tableDumpGiven timestamp sub view sequence prefix bits status originated address peer attributes in
       Placed (layout longest) (stateOf t) g → Writes (onlySub tableDumps longest) noTable g out r held → AsRead longest t out r g
   table-dump-refuses-as-read timestamp sub view sequence prefix bits status originated address peer attributes h w =
-      untold-as-read _ 3 6 _ (λ e. omega arith) (λ e. omega arith) (own-route sub) h w
+      untold-as-read _ 3 6 _ (λ e. omega arith) (λ e. omega arith) (own-table-dump sub) h w
 
   pub peer-table-refuses-as-read : (timestamp collector : ℕ) (name : List ℕ) (count : ℕ) (peers : List ℕ)
       → let g = peerTableGiven timestamp collector name count peers in
       Placed (layout longest) (stateOf t) g → Writes (onlySub peerTables longest) noTable g out r held → AsRead longest t out r g
-  peer-table-refuses-as-read timestamp collector name count peers h w = untold-as-read _ 3 6 _ (λ e. omega arith) (λ e. omega arith) (inl own-table) h w
+  peer-table-refuses-as-read timestamp collector name count peers h w = untold-as-read _ 3 6 _ (λ e. omega arith) (λ e. omega arith) own-peer-table h w
 
   -- the two that are told a table: the reader is told the same
   pub rib-refuses-as-read : (timestamp sub sequence bits : ℕ) (prefix : List ℕ) (count : ℕ) (entries : List ℕ)
@@ -122,7 +111,7 @@ module _ (longest : ℕ) (t : Table) (out held : List ℕ) (r : Written) where
   pub rib-generic-refuses-as-read : (timestamp sequence family safi bits : ℕ) (prefix : List ℕ) (count : ℕ) (entries : List ℕ)
       → let g = ribGenericGiven timestamp sequence family safi bits prefix count entries in
       Placed (layout longest) (stateOf t) g → Writes (onlySub genericRibs longest) (stateOf t) g out r held → AsRead longest t out r g
-  rib-generic-refuses-as-read timestamp sequence family safi bits prefix count entries h w = told-as-read genericRibs unlisted _ (inl own-generic) h w
+  rib-generic-refuses-as-read timestamp sequence family safi bits prefix count entries h w = told-as-read genericRibs unlisted _ own-rib-generic h w
 
   pub change-refuses-as-read : (time : Time) (sub peer local interface family : ℕ) (theirs ours : List ℕ) (old new : ℕ)
       → let g = changeGiven time sub peer local interface family theirs ours old new in

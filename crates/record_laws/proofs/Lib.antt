@@ -8,6 +8,7 @@ pub mod Tables
 pub mod One
 pub mod Accepts
 pub mod Only
+pub mod Own
 pub mod Restores
 pub mod Shows
 pub mod Given
@@ -16,3 +17,4 @@ pub mod Written
 pub mod Fair
 pub mod ReadBack
 pub mod AsReader
+pub mod Placed
