@@ -13,4 +13,5 @@ pub mod Put
 pub mod Given
 pub mod Moved
 pub mod Refuses
+pub mod Aligned
 pub mod Found

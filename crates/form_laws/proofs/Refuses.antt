@@ -3,7 +3,7 @@ use mathlib.Core.Path.{_≡_, refl, sym, ap, _∙_}
 use mathlib.Core.Bool.{Bool, true, false, cond}
 use mathlib.Core.Logic.{inl, inr}
 use mathlib.Core.List.{List, [], _∷_, _++_, append-assoc}
-use Prim.Native.Nat.{ℕ, zero, suc, _+_, _-_, _^_, _≤_, _<_}
+use Prim.Native.Nat.{ℕ, zero, suc, _+_, _-_, _≤_, _<_}
 use native.Mathlib.Omega.{arith}
 use lib.ListN.{length, take, drop, length-append, length-drop}
 use lib.Seq.{take-at, drop-at, take-append-le, drop-append-le}
@@ -18,7 +18,7 @@ use Rattle.form_spec.specs.Put.{Value, digits, bytes, spelled, orElse, misfit, 
 use Rattle.form_spec.specs.Put.{Tail, nothing, carried, items, tailed, faultOf, itemsRefusal, bodyRefusal, Given, message, octets, typeRefusal, fieldsRefusal, recordRefusal}
 use Rattle.form_spec.specs.Found.{faultNumber}
 use Rattle.form_spec.specs.Gives.{FitOne, Fit}
-use Rattle.form_spec.specs.Aligned.{Full, Aligned, Counted, AlignedBody}
+use Rattle.form_spec.specs.Aligned.{Full, Aligned, Counted, AlignedBody, Placed}
 use Rattle.form_laws.proofs.Octets.{length-toBe, be-toBe}
 use Rattle.form_laws.proofs.Fmt.{refuse-case, read-field, complete}
 use Rattle.form_laws.proofs.Moved.{moved-fault, moved-items}
@@ -172,15 +172,14 @@ type-body st (entries f g) vs t = refl
 
 module _ (layout : ℕ → ℕ → Layout) where
   -- the same of a record, wherever it stands and whatever follows
-  pub refuses-record : (st : St) (at : ℕ) (g : Given) (q : List ℕ) → g .stamp < 256 ^ 4 → g .type < 256 ^ 2 → g .sub < 256 ^ 2 → length (message g) < 256 ^ 4
-      → Fit (g .values) → AlignedBody (plan st (layout (g .type) (g .sub))) (g .values) (g .tail) → recordRefusal layout st g ≡ faultNumber (readRec layout st at (octets g ++ q))
+  pub refuses-record : (st : St) (at : ℕ) (g : Given) (q : List ℕ) → Placed layout st g → recordRefusal layout st g ≡ faultNumber (readRec layout st at (octets g ++ q))
   unfolding fieldsRefusal recordRefusal octets
-  refuses-record st at g q t y u n h s =
+  refuses-record st at g q h =
       let m : List ℕ = message g in
       let r : Rec = record { stamp = g .stamp; type = g .type; sub = g .sub; body = plain [] } in
       let p : Plan = plan st (layout (g .type) (g .sub)) in
       let e : octets g ++ q ≡ join (head r (length m)) ++ (m ++ q) = simp append-assoc in
-      rw (e, read-message layout st at r m q t y u n)
-      (rw (zero-large 4 (g .stamp) t, zero-large 2 (g .type) y, zero-large 2 (g .sub) u, zero-large 4 (length m) n, type-body st (layout (g .type) (g .sub)) (g .values) (g .tail))
+      rw (e, read-message layout st at r m q (h .stamp) (h .type) (h .sub) (h .size))
+      (rw (zero-large 4 (g .stamp) (h .stamp), zero-large 2 (g .type) (h .type), zero-large 2 (g .sub) (h .sub), zero-large 4 (length m) (h .size), type-body st (layout (g .type) (g .sub)) (g .values) (g .tail))
       (sym (orElse-none (bodyRefusal p (g .values) (g .tail)))
-      ∙ refuses-as-reader p (at + 12) (g .values) (g .tail) h s ∙ fault-spent (readBody p (at + 12) m) _ q (spent-body p (at + 12) m)))
+      ∙ refuses-as-reader p (at + 12) (g .values) (g .tail) (h .fit) (h .aligned) ∙ fault-spent (readBody p (at + 12) m) _ q (spent-body p (at + 12) m)))

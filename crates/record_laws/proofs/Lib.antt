@@ -15,6 +15,7 @@ pub mod Finds
 pub mod Accepts
 pub mod Numbers
 pub mod Only
+pub mod Own
 pub mod Restores
 pub mod Shows
 pub mod Given
@@ -22,3 +23,5 @@ pub mod Tails
 pub mod Written
 pub mod Fair
 pub mod ReadBack
+pub mod AsReader
+pub mod Placed

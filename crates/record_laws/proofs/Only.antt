@@ -1,7 +1,8 @@
 -- The writer of a record's kind refuses it just where the whole page does.
-use mathlib.Core.Path.{_≡_, refl, sym, _∙_}
+use mathlib.Core.Path.{_≡_, refl, sym, ap, _∙_}
 use mathlib.Core.Bool.{Bool, true, false}
-use Prim.Native.Nat.{ℕ, suc}
+use mathlib.Core.Logic.{inl, inr}
+use Prim.Native.Nat.{ℕ, suc, _<_}
 use native.Mathlib.Omega.{arith}
 use lib.Dec.{eqb}
 use borrow.Author.Tests.{eq-eqb, eqb-true}
@@ -12,7 +13,7 @@ use Rattle.form_laws.proofs.Put.{orElse-zero}
 use Rattle.page_spec.specs.Layout.{kind, layoutFor, layout}
 use Rattle.page_spec.specs.declared.Kind.{Kind}
 use Rattle.page_spec.specs.declared.Kind.the-variants.{Refused, Unread, TableDump, PeerTable, Rib, RibGeneric, Change, Message}
-use Rattle.write_spec.specs.Only.{ribs, genericRibs, writer, only}
+use Rattle.write_spec.specs.Only.{ribs, genericRibs, writer, only, Own}
 
 -- a writer has its own records' layouts
 pub only-own : (n : ℕ) (other : Kind) (longest type sub : ℕ) → n ≡ writer (kind type sub) → only n other longest type sub ≡ layout longest type sub
@@ -68,3 +69,32 @@ own-refusal-free n a p longest st g h i e =
     let own-layout = only-own n (Refused (suc a) p) longest (g .type) (g .sub) w in
     let own = only n (Refused (suc a) p) longest in
     refusal-own own (layout longest) st g own-layout ∙ refusal-free longest st g (λ d. h (w ∙ d)) (λ d. i (w ∙ d)) ∙ sym (refusal-own own (layout longest) noTable g own-layout) ∙ e
+
+-- ---- records of the writer's own, and those that the reader refuses as the writer does
+
+choose-same : (b : Bool) (k j : Kind) → k ≡ j → choose b k j ≡ k
+unfolding choose
+choose-same true k j e = refl
+choose-same false k j e = sym e
+
+-- the writer and the reader have one layout for them
+pub own-layout : (n : ℕ) (other : Kind) (longest : ℕ) (g : Given) → Own n other g → only n other longest (g .type) (g .sub) ≡ layout longest (g .type) (g .sub)
+unfolding layout
+own-layout n other longest g (inl e) = only-own n other longest (g .type) (g .sub) (sym e)
+own-layout n other longest g (inr e) = ap (layoutFor longest) (choose-same (eqb (writer (kind (g .type) (g .sub))) n) (kind (g .type) (g .sub)) other e)
+
+-- and so refuse alike
+pub own-refusal : (n : ℕ) (other : Kind) (longest : ℕ) (st : St) (g : Given) → Own n other g → recordRefusal (only n other longest) st g ≡ recordRefusal (layout longest) st g
+own-refusal n other longest st g o = refusal-own (only n other longest) (layout longest) st g (own-layout n other longest g o)
+
+-- what is refused by its Type or Subtype is no RIB record
+own-other : (n k a p : ℕ) (g : Given) → 0 < k → Own n (Refused (suc a) p) g → (n ≡ k → ⊥) → writer (kind (g .type) (g .sub)) ≡ k → ⊥
+own-other n k a p g some (inl e) h d = h (sym e ∙ d)
+own-other n k a p g some (inr e) h d = let z : 0 ≡ k = sym (ap writer e) ∙ d in absurd (omega arith)
+
+-- so a writer of other records, who is told of no table, refuses as a reader who is told of any
+pub own-refusal-untold : (n a p longest : ℕ) (st : St) (g : Given) → Own n (Refused (suc a) p) g → (n ≡ ribs → ⊥) → (n ≡ genericRibs → ⊥)
+    → recordRefusal (only n (Refused (suc a) p) longest) noTable g ≡ recordRefusal (layout longest) st g
+own-refusal-untold n a p longest st g o h i =
+    own-refusal n (Refused (suc a) p) longest noTable g o
+    ∙ sym (refusal-free longest st g (own-other n ribs a p g (omega arith) o h) (own-other n genericRibs a p g (omega arith) o i))

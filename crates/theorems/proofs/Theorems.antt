@@ -17,6 +17,9 @@
 --   answerAt       dagsumilat_spec/specs/RecordAnswers  what the call for a record of a dump answers
 --   unjudgedAt     dagsumilat_spec/specs/Unjudged  what the call for an entry shows
 --   Fair           record_laws/proofs/Written  fields of the form that a writer takes
+--   numberAt       record_spec/specs/Reads   the number that reading gives the record that starts the octets
+--   Own, Placed    write_spec/specs/Only, form_spec/specs/Aligned  whose a record is; each number goes into its field, each part has its size
+--   numberFor      room_spec/specs/Room      the fault, then 15
 --   leftOf         cut_spec/specs/Answer     what is left of a dump, by `cut` of cut_spec/specs/Cut
 use mathlib.Core.Path.{_≡_, sym, _∙_}
 use mathlib.Core.Logic.{_↔_}
@@ -30,6 +33,7 @@ use Rattle.form_spec.specs.Shape.{Layout, St, noTable, itemsOf}
 use Rattle.form_spec.specs.Record.{Rec, write, readRec, Valid}
 use Rattle.form_spec.specs.Dump.{Splits, walkFrom, nexts}
 use Rattle.form_spec.specs.Put.{Given, octets, recordRefusal}
+use Rattle.form_spec.specs.Aligned.{Placed}
 use Rattle.page_spec.specs.Layout.{layout}
 use Rattle.page_spec.specs.Rib.{entry}
 use Rattle.page_spec.specs.declared.Kind.{Kind}
@@ -48,12 +52,13 @@ use Rattle.record_spec.specs.declared.Table.the-variants.{Holds}
 use Rattle.record_spec.specs.Table.{stateOf}
 use Rattle.record_spec.specs.One.{readOne}
 use Rattle.record_spec.specs.Answer.{fault, place, end, peerFault, peerEnd, entryFault, entryEnd}
-use Rattle.record_spec.specs.Reads.{Reads}
+use Rattle.record_spec.specs.Reads.{numberAt, Reads}
 use Rattle.record_spec.specs.Items.{peerAt, entryAt, met, peerOf, entryOf, Each, Meets}
 use Rattle.room_spec.specs.Answer as written
 use Rattle.room_spec.specs.declared.Written.{Written}
+use Rattle.room_spec.specs.Room.{numberFor}
 use Rattle.room_spec.specs.declared.Written.the-variants as answer
-use Rattle.write_spec.specs.Only.{only}
+use Rattle.write_spec.specs.Only.{only, Own}
 use Rattle.write_spec.specs.Verdict.{writerAnswer, writerLeaves, Writes}
 use Rattle.record_spec.specs.Tells.{Tells}
 use Rattle.record_spec.specs.Agrees.{Agrees, writerOf}
@@ -76,6 +81,7 @@ use Rattle.record_laws.proofs.Restores as restores
 use Rattle.record_laws.proofs.Written as writing
 use Rattle.record_laws.proofs.Item as item
 use Rattle.record_laws.proofs.Items as items
+use Rattle.record_laws.proofs.AsReader as as-reader
 use Rattle.walk_laws.proofs.Demand2 as dumps
 use Rattle.walk_laws.proofs.Steps as steps
 use Rattle.cut_laws.proofs.Answers as answers-of
@@ -154,6 +160,14 @@ module _ (longest : ℕ) where
       → Writes (only n (chosen.Refused (suc a) p) longest) st g out (answer.Octets k) held
       → let y = readOne longest t held in (fault y ≡ 0) × (place y ≡ k) × (writerOf y ≡ n) × (again held y ≡ g)
   read-back t st told n a p g fair out held k o w = let b = writing.read-back longest t st told n a p g fair st (λ e. e) out held k o w in (b .accepted, b .ends, b .whose, b .given)
+
+  -- a writer refuses with the number that the reader would give the record in that place, then 15, and its place is 0. The record is the
+  -- writer's own, or one that both refuse by its Type or Subtype, and every value has its place; each of the seven writers, by its own
+  -- parameters and its own promise, in record_laws/proofs/AsReader
+  pub refuses-as-read : (t : Table) (n : ℕ) (other : Kind) (g : Given) → Own n other g → Placed (layout longest) (stateOf t) g → (out held : List ℕ) (r : Written)
+      → Writes (only n other longest) (stateOf t) g out r held → (written.fault r ≡ numberFor (numberAt longest t (octets g)) (octets g) out) × (written.place r ≡ 0)
+  refuses-as-read t n other g own h out held r w =
+      (as-reader.told-as-read longest t out held r n other g own h w, as-reader.writer-place (only n other longest) (stateOf t) g out held r w)
 
   -- the peers of a table and the entries of a RIB record: going `count` times from the first, each time to where the one shown ends, meets
   -- the record's own items, each with its fields, and ends where the record ends
