@@ -1,7 +1,7 @@
 -- A peer table stays, without the peers that go, and its peers are then those of the table in force.
 use mathlib.Core.Path.{_≡_, refl, sym, ap, _∙_, subst}
 use mathlib.Core.Bool.{true}
-use mathlib.Core.List.{List, [], _∷_, append-nil, map}
+use mathlib.Core.List.{List, [], append-nil, map}
 use Prim.Native.Nat.{ℕ, _+_, _-_, _≤_, _<_}
 use native.Mathlib.Omega.{arith}
 use lib.ListN.{length, drop, length-map}

@@ -1,18 +1,18 @@
 -- The laws of going through a format: one after another, and against its reading.
-use mathlib.Core.Path.{_≡_, refl, sym, ap, _∙_}
+use mathlib.Core.Path.{_≡_, refl, ap, _∙_}
 use mathlib.Core.Bool.{Bool, true, false, cond}
 use mathlib.Core.List.{List, [], _∷_, _++_}
 use Prim.Native.Nat.{ℕ, zero, suc, _+_, _-_, _≤_, _<_}
 use native.Mathlib.Omega.{arith}
-use native.Mathlib.Nat.{add-zero, add-assoc}
+use native.Mathlib.Nat.{add-assoc}
 use lib.ListN.{length, take, drop, length-drop, length-append}
 use lib.Seq.{drop-drop, length-take-le}
 use lib.Dec.{ltb, eqb}
 use borrow.Author.Tests.{ltb-true, ltb-false, lt-ltb, le-ltb}
 use Rattle.form_spec.specs.Octets.{be}
-use Rattle.form_spec.specs.Fmt.{Out, bad, good, bind, refuseIf, Fmt, end, test, field, read, Fits, join, overAt}
+use Rattle.form_spec.specs.Fmt.{Out, bad, good, bind, Fmt, end, test, field, read, Fits, join, overAt}
 use Rattle.form_laws.proofs.Fmt.{complete}
-use Rattle.form_spec.specs.Pass.{Seen, note, placeOf, sizeOf, fieldOctets, pass, _⨾_, afterOf}
+use Rattle.form_spec.specs.Pass.{Seen, note, placeOf, sizeOf, pass, _⨾_, afterOf}
 
 -- the fields of a format that were read from offset i on
 unfoldable pub seen : Fmt → ℕ → List (List ℕ) → List Seen

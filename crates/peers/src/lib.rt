@@ -1,9 +1,9 @@
 // Type 13, subtype 1: the peer table. m is the record from its header to its last octet.
 ghost use mathlib.Core.Path.{_≡_};
-ghost use Prim.Native.Nat.{_+_, _≤_};
+ghost use Prim.Native.Nat.{_≤_};
 ghost use Rattle.form_spec.specs.Pass.{pass, whole, times, numberOf};
 ghost use Rattle.page_spec.specs.Peers.{peerRest, peerSized, peer, peerTable};
-ghost use Rattle.record_spec.specs.Fields.{partOf, restFrom};
+ghost use Rattle.record_spec.specs.Fields.{partOf};
 ghost use Rattle.record_spec.specs.Fields as show;
 ghost use Rattle.record_spec.specs.Answer.{peerFault, peerEnd};
 ghost use Rattle.record_spec.specs.Items.{peerAt, Finds};

@@ -13,7 +13,7 @@ use Rattle.record_spec.specs.declared.Table.{Table}
 use Rattle.record_spec.specs.Answer.{fault, place}
 use Rattle.record_spec.specs.Agrees.{Agrees}
 use Rattle.record_spec.specs.One.{readOne}
-use Rattle.record_spec.specs.Reads.{placeIn, numberAt, placeAt, Reads}
+use Rattle.record_spec.specs.Reads.{placeIn, Reads}
 use Rattle.record_spec.specs.Table.{stateOf}
 use Rattle.record_laws.proofs.Accepts.{no-octets, tells-table}
 use Rattle.record_laws.proofs.One.{one-record}

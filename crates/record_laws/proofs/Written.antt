@@ -1,5 +1,5 @@
 -- Reading what a writer wrote shows the very values that it was given.
-use mathlib.Core.Path.{_≡_, refl, sym, subst, _∙_}
+use mathlib.Core.Path.{_≡_, sym, _∙_}
 use mathlib.Core.List.{List, _++_}
 use Prim.Native.Nat.{ℕ, suc}
 use lib.ListN.{length, drop}
@@ -14,7 +14,6 @@ use Rattle.record_spec.specs.declared.Table.{Table}
 use Rattle.record_spec.specs.Answer.{fault, place}
 use Rattle.record_spec.specs.One.{readOne}
 use Rattle.write_spec.specs.Only.{writer, only}
-use Rattle.room_spec.specs.Room.{Answers}
 use Rattle.room_spec.specs.declared.Written.the-variants as room
 use Rattle.room_laws.proofs.Room as laws
 use Rattle.write_spec.specs.Verdict.{writerAnswer, writerLeaves, Writes}
