@@ -1,18 +1,14 @@
 // The library's calls for C and Rust (include/dagsumilat.h).
 ghost use mathlib.Core.Path.{_≡_};
-ghost use Rattle.form_spec.specs.Pass.{pass};
-ghost use Rattle.page_spec.specs.Peers as page;
 ghost use Rattle.page_spec.specs.Bgp4mp.{longestMessage};
-ghost use Rattle.record_spec.specs.Fields as show;
-ghost use Rattle.record_spec.specs.declared.Peer.the-variants as peers;
-ghost use Rattle.record_spec.specs.declared.Entry.the-variants as entries;
+ghost use Rattle.record_spec.specs.Items.{peerAt};
 ghost use Rattle.walk_spec.specs.Walked.{walked};
 ghost use Rattle.cut_spec.specs.Answer.{cutAnswer, cutLeaves};
 ghost use Rattle.dagsumilat_spec.specs.Answers as words;
 ghost use Rattle.look_spec.specs.Field.{typeOf, subtypeOf, itemsAt, countOf, Known, Is, Shows, Counted};
 ghost use Rattle.look_spec.specs.Sort as sort;
 ghost use Rattle.dagsumilat_spec.specs.RecordAnswers.{none, tableByCount, countOfTable, noRecord, good, bySort, answerAt};
-ghost use Rattle.dagsumilat_spec.specs.Unjudged.{entryFields};
+ghost use Rattle.dagsumilat_spec.specs.Unjudged.{unjudgedAt};
 use cut::cut;
 use dagsumilat_spec::RecordAnswer;
 use look::count;
@@ -210,7 +206,7 @@ pub extern "C" fn dagsumilat_record(dump: &[u8], at: usize, table: u64, answer: 
 // The peer of a table that starts at `at`.
 #[no_mangle]
 pub extern "C" fn dagsumilat_peer(dump: &[u8], at: usize, answer: &mut [u64; 7])
-    ensures { λ _. ⌜ now (answer .exit) ≡ words.peerWords (now (answer .entry)) (pass show.peer peers.Bad page.peer (now (dump .entry)) at) ⌝ }
+    ensures { λ _. ⌜ now (answer .exit) ≡ words.peerWords (now (answer .entry)) (peerAt (now (dump .entry)) at) ⌝ }
 {
     match peer_at(dump, at) {
         Peer::Of(kind, id, address, number, next) => {
@@ -237,7 +233,7 @@ pub extern "C" fn dagsumilat_peer(dump: &[u8], at: usize, answer: &mut [u64; 7])
 }
 
 fn entry_fields(d: &[u8], at: usize) -> Entry
-    ensures { λ r. ⌜ r ≡ pass show.entry entries.Bad entryFields (now (d .entry)) at ⌝ }
+    ensures { λ r. ⌜ r ≡ unjudgedAt (now (d .entry)) at ⌝ }
 {
     let Num::Value(index, a) = field(d, at, 2) else {
         return Entry::Bad(5, at);
@@ -258,7 +254,7 @@ fn entry_fields(d: &[u8], at: usize) -> Entry
 // The entry of a RIB record that starts at `at`. It is not judged: that was done with its record.
 #[no_mangle]
 pub extern "C" fn dagsumilat_entry(dump: &[u8], at: usize, answer: &mut [u64; 6])
-    ensures { λ _. ⌜ now (answer .exit) ≡ words.entryWords (now (answer .entry)) (pass show.entry entries.Bad entryFields (now (dump .entry)) at) ⌝ }
+    ensures { λ _. ⌜ now (answer .exit) ≡ words.entryWords (now (answer .entry)) (unjudgedAt (now (dump .entry)) at) ⌝ }
 {
     match entry_fields(dump, at) {
         Entry::At(index, originated, attributes, next) => {

@@ -1,11 +1,8 @@
 -- `dagsumilat::dagsumilat_entry` meets its contract.
 use mathlib.Core.Path.{_≡_, sym, ap, _∙_}
 use denote.Ref.{now}
-use Rattle.form_spec.specs.Pass.{pass}
-use Rattle.record_spec.specs.Fields as show
 use Rattle.record_spec.specs.declared.Entry.{Entry}
-use Rattle.record_spec.specs.declared.Entry.the-variants as entries
-use Rattle.dagsumilat_spec.specs.Unjudged.{entryFields}
+use Rattle.dagsumilat_spec.specs.Unjudged.{unjudgedAt}
 use Rattle.dagsumilat_spec.specs.Answers.{entryWords}
 use borrow.Author.Needs.{needs}
 use Rattle.dagsumilat.proofs.dagsumilat_entry.Statement.{statement}
@@ -17,7 +14,7 @@ start c = c .before .before
 
 -- the words that tell what was read are the promised ones
 answered : (c : tie.After-entry-fields) (y : Entry) → c .entry-fields .result ≡ y → let a = start c .args in
-    entryWords (now (a .answer)) y ≡ entryWords (now (a .answer)) (pass show.entry entries.Bad entryFields (now (a .dump)) (a .at))
+    entryWords (now (a .answer)) y ≡ entryWords (now (a .answer)) (unjudgedAt (now (a .dump)) (a .at))
 answered c y e = ap (entryWords (now (start c .args .answer))) (sym e ∙ c .entry-fields .ensures)
 
 entry-fields-requires : tie.Need-entry-fields-requires

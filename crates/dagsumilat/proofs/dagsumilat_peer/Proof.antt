@@ -1,11 +1,8 @@
 -- `dagsumilat::dagsumilat_peer` meets its contract.
 use mathlib.Core.Path.{_≡_, sym, ap, _∙_}
 use denote.Ref.{now}
-use Rattle.form_spec.specs.Pass.{pass}
-use Rattle.record_spec.specs.Fields as show
+use Rattle.record_spec.specs.Items.{peerAt}
 use Rattle.record_spec.specs.declared.Peer.{Peer}
-use Rattle.record_spec.specs.declared.Peer.the-variants as peers
-use Rattle.page_spec.specs.Peers as page
 use Rattle.dagsumilat_spec.specs.Answers.{peerWords}
 use borrow.Author.Needs.{needs}
 use Rattle.dagsumilat.proofs.dagsumilat_peer.Statement.{statement}
@@ -17,7 +14,7 @@ start c = c .before .before
 
 -- the words that tell what was read are the promised ones
 answered : (c : tie.After-peer-at) (y : Peer) → c .peer-at .result ≡ y → let a = start c .args in
-    peerWords (now (a .answer)) y ≡ peerWords (now (a .answer)) (pass show.peer peers.Bad page.peer (now (a .dump)) (a .at))
+    peerWords (now (a .answer)) y ≡ peerWords (now (a .answer)) (peerAt (now (a .dump)) (a .at))
 answered c y e = ap (peerWords (now (start c .args .answer))) (sym e ∙ c .peer-at .ensures .0)
 
 peer-at-requires : tie.Need-peer-at-requires
