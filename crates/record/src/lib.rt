@@ -5,6 +5,7 @@ ghost use lib.ListN.{length};
 ghost use Rattle.page_spec.specs.Sane.{Sane};
 ghost use Rattle.page_spec.specs.Bgp4mp.{longestMessage};
 ghost use Rattle.record_spec.specs.One.{header, microAt, shownUnread, shownRib, shownGeneric, shownChange, shownMessage, shownAs, wholeRecord, readOne};
+ghost use Rattle.record_spec.specs.Reads.{Reads};
 ghost use Rattle.record.specs.Small.{Small};
 ghost use Rattle.record.specs.Stamp.{stampOf};
 use bgp::bgp_message;
@@ -171,7 +172,7 @@ pub fn read_with(s: &[u8], t: Table, longest: u64) -> Shown
 
 // The same up to the longest BGP message of today.
 pub fn read_record(s: &[u8], t: Table) -> Shown
-    ensures { λ r. ⌜ r ≡ readOne longestMessage t (now (s .entry)) ⌝ }
+    ensures { λ r. ⌜ Reads longestMessage t (now (s .entry)) r ⌝ }
 {
     read_with(s, t, LONGEST_MESSAGE)
 }

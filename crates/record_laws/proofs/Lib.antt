@@ -7,6 +7,7 @@ pub mod Unread
 pub mod Tables
 pub mod One
 pub mod Accepts
+pub mod Numbers
 pub mod Only
 pub mod Restores
 pub mod Shows

@@ -93,8 +93,3 @@ module _ (longest : ℕ) (t : Table) (st : St) (tells : Tells t st) (n a p : ℕ
   read-back su alike out held k oc w =
       let z = wrote own su g out k (sym (w .0)) in
       rw (w .1 ∙ z .left, z .size) (octets-back (alike (z .refused)) (drop (length (octets g)) out) (octets-drop (length (octets g)) out oc))
-
-  -- told of one table, reader and writer
-  pub shows-written : (out : List ℕ) (k : ℕ) → Octets out → writerAnswer own st g out ≡ room.Octets k
-      → (again (writerLeaves own st g out) (readOne longest t (writerLeaves own st g out)) ≡ g) × (place (readOne longest t (writerLeaves own st g out)) ≡ k)
-  shows-written out k oc e = let z = read-back st (λ d. d) out (writerLeaves own st g out) k oc (sym e, refl) in (z .given, z .ends)
