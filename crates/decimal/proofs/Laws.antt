@@ -1,19 +1,13 @@
 -- Digits laid over a buffer, one behind another.
 use mathlib.Core.Path.{_≡_, ap, _∙_}
 use mathlib.Core.List.{List, [], _∷_, _++_}
-use Prim.Native.Nat.{ℕ, suc, _+_, _/_, _%_, _≤_, _<_}
+use Prim.Native.Nat.{ℕ, _+_, _/_, _%_, _≤_, _<_}
 use native.Mathlib.Omega.{arith}
-use lib.ListN.{length, take, drop, set, length-append, length-set}
-use lib.Seq.{set-split}
+use lib.ListN.{length, set, length-append}
 use Rattle.octets_spec.specs.Over.{over}
-use Rattle.octets_laws.proofs.Over.{over-over, length-over}
+use Rattle.octets_laws.proofs.Over.{over-over, over-one, length-over}
 use Rattle.decimal_spec.specs.Decimal.{decimal}
 use Rattle.decimal_laws.proofs.Decimal.{decimal-small, decimal-step}
-
--- one octet stored
-over-one : (out : List ℕ) (at x : ℕ) → at < length out → set out at x ≡ over out at (x ∷ [])
-unfolding over
-over-one out at x h = let e : at + 1 ≡ suc at = omega arith in set-split out at x h ∙ rw e
 
 pub length-small : (n : ℕ) → n < 10 → length (decimal n) ≡ 1
 length-small n h = ap length (decimal-small n h)
