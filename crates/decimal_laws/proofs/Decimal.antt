@@ -1,33 +1,45 @@
--- Laws of decimal text: a digit at a time, its length, and that it spells octets.
-use mathlib.Core.Path.{_≡_, refl, sym, ap, _∙_}
-use mathlib.Core.Bool.{Bool, true, false, cond}
+-- Laws of decimal text: a digit at a time, and how many digits there are.
+use mathlib.Core.Path.{_≡_, refl, ap, _∙_}
+use mathlib.Core.Bool.{Bool, true, false}
 use mathlib.Core.List.{List, [], _∷_, _++_}
-use Prim.Native.Nat.{ℕ, zero, suc, _+_, _*_, _/_, _%_, _^_, _≤_, _<_}
+use Prim.Native.Nat.{ℕ, zero, suc, _+_, _/_, _%_, _^_, _≤_, _<_}
 use native.Mathlib.Omega.{arith}
 use lib.Dec.{ltb}
 use lib.ListN.{length, length-append}
-use borrow.Author.Tests.{lt-ltb, le-ltb, ltb-true, ltb-false}
-use Rattle.decimal_spec.specs.Decimal.{digitsWithin, decimal}
+use borrow.Author.Tests.{ltb-true, ltb-false}
+use Rattle.decimal_spec.specs.Decimal.{digit, leading, decimal}
+
+-- ---- a digit at a time
 
 -- more steps than needed change nothing
-enough : (j k n : ℕ) → n < j → n < k → digitsWithin j n ≡ digitsWithin k n
-unfolding digitsWithin
-enough zero k n p q = absurd (omega arith)
-enough (suc j) zero n p q = absurd (omega arith)
-enough (suc j) (suc k) n p q = go (ltb n 10) refl (λ h. enough j k (n / 10) (omega arith) (omega arith))
-  where
-    go : (b : Bool) → ltb n 10 ≡ b → (10 ≤ n → digitsWithin j (n / 10) ≡ digitsWithin k (n / 10))
-        → digitsWithin (suc j) n ≡ digitsWithin (suc k) n
-    go true e h = rw e
-    go false e h = rw (e, h (ltb-false n 10 e))
+enough : (j k n : ℕ) → n ≤ j → n ≤ k → leading j n ≡ leading k n
+unfolding leading
+enough zero zero n p q = refl
+enough zero (suc k) zero p q = refl
+enough zero (suc k) (suc n) p q = absurd (omega arith)
+enough (suc j) zero zero p q = refl
+enough (suc j) zero (suc n) p q = absurd (omega arith)
+enough (suc j) (suc k) zero p q = refl
+enough (suc j) (suc k) (suc n) p q = rw (enough j k (suc n / 10) (omega arith) (omega arith))
 
-pub decimal-small : (n : ℕ) → n < 10 → decimal n ≡ (48 + n) ∷ []
-unfolding decimal digitsWithin
-decimal-small n h = rw (lt-ltb n 10 h)
+pub decimal-small : (n : ℕ) → n < 10 → decimal n ≡ digit n ∷ []
+unfolding decimal leading
+decimal-small n h =
+    let q : n / 10 ≡ 0 = omega arith in
+    let r : n % 10 ≡ n = omega arith in
+    rw (q, r)
 
-pub decimal-step : (n : ℕ) → 10 ≤ n → decimal n ≡ decimal (n / 10) ++ ((48 + n % 10) ∷ [])
-unfolding decimal digitsWithin
-decimal-step n h = rw (le-ltb n 10 h, enough n (suc (n / 10)) (n / 10) (omega arith) (omega arith))
+-- the digits in front of a number's last are those of its tenth
+front : (m : ℕ) → 0 < m → leading m m ≡ decimal m
+unfolding decimal leading
+front zero h = absurd (omega arith)
+front (suc m) h = rw (enough m (suc m / 10) (suc m / 10) (omega arith) (omega arith))
+
+pub decimal-step : (n : ℕ) → 10 ≤ n → decimal n ≡ decimal (n / 10) ++ (digit (n % 10) ∷ [])
+unfolding decimal
+decimal-step n h = ap (λ (ds : List ℕ). ds ++ (digit (n % 10) ∷ [])) (front (n / 10) (omega arith))
+
+-- ---- how many there are
 
 -- a number below a power of ten has at most as many digits
 pub decimal-length : (k n : ℕ) → n < 10 ^ k → 0 < k → length (decimal n) ≤ k
