@@ -1,10 +1,10 @@
 -- Laws of `over`: what follows is laid behind what was laid before.
 use mathlib.Core.Path.{_≡_, refl, sym, ap, _∙_}
-use mathlib.Core.List.{List, [], _++_, append-assoc}
-use Prim.Native.Nat.{ℕ, zero, suc, _+_, _-_, _≤_}
+use mathlib.Core.List.{List, [], _∷_, _++_, append-assoc}
+use Prim.Native.Nat.{ℕ, zero, suc, _+_, _-_, _≤_, _<_}
 use native.Mathlib.Omega.{arith}
-use lib.ListN.{length, take, drop, length-append, length-take, length-drop, take-append-drop, drop-of-length-le}
-use lib.Seq.{paste, take-all, drop-drop, length-take-le, take-at, drop-at}
+use lib.ListN.{length, take, drop, set, length-append, length-take, length-drop, take-append-drop, drop-of-length-le}
+use lib.Seq.{paste, take-all, drop-drop, length-take-le, take-at, drop-at, set-split}
 use Rattle.octets_spec.specs.Over.{over}
 
 -- the length stays
@@ -31,6 +31,11 @@ over-none out at h = let e : at + 0 ≡ at = omega arith in rw e (take-drop at o
   where
     take-drop : (n : ℕ) (l : List ℕ) → take n l ++ drop n l ≡ l
     take-drop n l = rw take-append-drop
+
+-- one octet stored
+pub over-one : (out : List ℕ) (at x : ℕ) → at < length out → set out at x ≡ over out at (x ∷ [])
+unfolding over
+over-one out at x h = let e : at + 1 ≡ suc at = omega arith in set-split out at x h ∙ rw e
 
 -- what the copying loop has done
 pub over-paste : (out : List ℕ) (at : ℕ) (s : List ℕ) (n : ℕ) → n ≤ length s → paste out at s n ≡ over out at (take n s)
