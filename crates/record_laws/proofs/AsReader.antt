@@ -1,11 +1,11 @@
--- A writer refuses with the number that the reader would give the record in that place, then 15: for each of the seven writers, from its own
--- promise. Two things must hold of the record for a reader to meet there what the writer was given.
+-- A writer's number is the reader's: what reading would answer for the record's octets, and 15 only where that is 0. For each of the seven
+-- writers, from its own promise. Two things must hold for a reader to meet in the octets what the writer was given.
 --
--- `Own`: its Type and Subtype are the writer's, or such that the reader refuses them as the writer does. Else the writer refuses the record of
+-- `Own`: Type and Subtype are the writer's, or such that the reader refuses them as the writer does. Else the writer refuses a record of
 -- another layout (4, or 3), where a reader would go by that layout.
--- `Placed`: every number goes into its field, and every part has its field's size. Else the octets of all later fields stand elsewhere, or
--- there are no octets to read, and the number is that of the field in its turn, by `refusal` of form_spec/specs/Put: 5 for a part too short, 6
--- for one too long or a number too large. What it asks of each writer's parameters is in proofs/Placed, whose a record is in proofs/Own.
+-- `Placed`: every number goes into its field, and every part has its field's size. Else the later fields would stand elsewhere, or a number
+-- has no octets to be read from, and the number is that of the field in its turn, by `refusal` of form_spec/specs/Put: 5 for a part too short,
+-- 6 for one too long or a number too large. What it asks of each writer's parameters is in proofs/Placed, whose a record is in proofs/Own.
 use mathlib.Core.Path.{_≡_, refl, sym, ap, _∙_}
 use mathlib.Core.List.{List, [], _∷_, _++_, append-nil}
 use Prim.Native.Nat.{ℕ, zero, suc, _<_}
@@ -53,6 +53,10 @@ module _ (longest : ℕ) (t : Table) where
   -- or nothing
   pub number-alone : (g : Given) → Placed (layout longest) (stateOf t) g → recordRefusal (layout longest) (stateOf t) g ≡ numberAt longest t (octets g)
   number-alone g h = rw (append-nil (octets g)) at (number-before g h [])
+
+  -- so what follows the record has no part in it
+  pub number-follows : (g : Given) → Placed (layout longest) (stateOf t) g → (q : List ℕ) → numberAt longest t (octets g ++ q) ≡ numberAt longest t (octets g)
+  number-follows g h q = sym (number-before g h q) ∙ number-alone g h
 
 -- ---- the law
 

@@ -161,9 +161,9 @@ module _ (longest : ℕ) where
       → let y = readOne longest t held in (fault y ≡ 0) × (place y ≡ k) × (writerOf y ≡ n) × (again held y ≡ g)
   read-back t st told n a p g fair out held k o w = let b = writing.read-back longest t st told n a p g fair st (λ e. e) out held k o w in (b .accepted, b .ends, b .whose, b .given)
 
-  -- a writer refuses with the number that the reader would give the record in that place, then 15, and its place is 0. The record is the
-  -- writer's own, or one that both refuse by its Type or Subtype, and every value has its place; each of the seven writers, by its own
-  -- parameters and its own promise, in record_laws/proofs/AsReader
+  -- a writer's number is the reader's: what reading would answer for the record's octets, and 15 only where that is 0; its place is 0. The
+  -- record is the writer's own, or one that both refuse by its Type or Subtype, and every value has its place. Each of the seven writers, by
+  -- its own parameters and its own promise, in record_laws/proofs/AsReader; what `Placed` asks of them in record_laws/proofs/Placed
   pub refuses-as-read : (t : Table) (n : ℕ) (other : Kind) (g : Given) → Own n other g → Placed (layout longest) (stateOf t) g → (out held : List ℕ) (r : Written)
       → Writes (only n other longest) (stateOf t) g out r held → (written.fault r ≡ numberFor (numberAt longest t (octets g)) (octets g) out) × (written.place r ≡ 0)
   refuses-as-read t n other g own h out held r w =
