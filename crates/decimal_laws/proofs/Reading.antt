@@ -2,16 +2,15 @@
 use mathlib.Core.Path.{_≡_, refl, sym, ap, _∙_}
 use mathlib.Core.Bool.{Bool, true, false, cond}
 use mathlib.Core.List.{List, [], _∷_, _++_, append-nil}
-use Prim.Native.Nat.{ℕ, zero, suc, _+_, _-_, _*_, _/_, _%_, _≤_, _<_}
+use Prim.Native.Nat.{ℕ, _+_, _-_, _*_, _/_, _%_, _≤_, _<_}
 use native.Mathlib.Omega.{arith}
 use lib.Dec.{ltb, leb}
 use lib.ListN.{length, drop}
 use lib.Seq.{append-snoc}
-use borrow.Author.Tests.{lt-ltb, le-leb, lt-leb, ltb-true, ltb-false, leb-true, leb-false}
+use borrow.Author.Tests.{lt-ltb, le-leb, lt-leb, ltb-true, ltb-false, leb-true}
 use Rattle.form_spec.specs.Words.{choose, inRange}
 use Rattle.decimal_spec.specs.Decimal.{digit, decimal, Digits}
 use Rattle.decimal_spec.specs.Reading.{isDigit, run, valueFrom, value, canonical, spelled, numberAt}
-use Rattle.decimal_spec.specs.declared.Number.{Number}
 use Rattle.decimal_spec.specs.declared.Number.the-variants.{Value, Bad}
 use Rattle.decimal_laws.proofs.Decimal.{decimal-small, decimal-step, by-digits}
 
