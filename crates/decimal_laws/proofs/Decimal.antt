@@ -1,5 +1,5 @@
 -- Laws of decimal text: a digit at a time, and how many digits there are.
-use mathlib.Core.Path.{_≡_, refl, ap, _∙_}
+use mathlib.Core.Path.{_≡_, refl, ap}
 use mathlib.Core.Bool.{Bool, true, false}
 use mathlib.Core.List.{List, [], _∷_, _++_}
 use Prim.Native.Nat.{ℕ, zero, suc, _+_, _/_, _%_, _^_, _≤_, _<_}
@@ -39,30 +39,33 @@ pub decimal-step : (n : ℕ) → 10 ≤ n → decimal n ≡ decimal (n / 10) ++ 
 unfolding decimal
 decimal-step n h = ap (λ (ds : List ℕ). ds ++ (digit (n % 10) ∷ [])) (front (n / 10) (omega arith))
 
+-- what holds of one digit, and of a number where it holds of its tenth, holds of every number
+pub by-digits : (P : ℕ → Type 0) → ((n : ℕ) → n < 10 → P n) → ((n : ℕ) → 10 ≤ n → P (n / 10) → P n) → (n : ℕ) → P n
+by-digits P small step n = go (suc n) n (omega arith)
+  where
+    pick : (n : ℕ) (b : Bool) → ltb n 10 ≡ b → (10 ≤ n → P (n / 10)) → P n
+    pick n true e h = small n (ltb-true n 10 e)
+    pick n false e h = let q : 10 ≤ n = ltb-false n 10 e in step n q (h q)
+
+    go : (k n : ℕ) → n < k → P n
+    go zero n h = absurd (omega arith)
+    go (suc k) n h = pick n (ltb n 10) refl (λ q. go k (n / 10) (omega arith))
+
 -- ---- how many there are
 
 -- a number below a power of ten has at most as many digits
 pub decimal-length : (k n : ℕ) → n < 10 ^ k → 0 < k → length (decimal n) ≤ k
-decimal-length zero n h p = absurd (omega arith)
-decimal-length (suc k) n h p = go (ltb n 10) refl (λ q. decimal-length k (n / 10) (omega arith) q)
+decimal-length k n = by-digits (λ (m : ℕ). (k : ℕ) → m < 10 ^ k → 0 < k → length (decimal m) ≤ k) small step n k
   where
-    shorter : 10 ≤ n → n / 10 < 10 ^ k
-    shorter q = omega arith
+    small : (n : ℕ) → n < 10 → (k : ℕ) → n < 10 ^ k → 0 < k → length (decimal n) ≤ k
+    small n q k h p = rw (decimal-small n q) (omega arith)
 
-    some : (j : ℕ) → 0 < n / 10 → n / 10 < 10 ^ j → 0 < j
-    some zero a b = absurd (omega arith)
-    some (suc j) a b = omega arith
-
-    go : (b : Bool) → ltb n 10 ≡ b → (0 < k → length (decimal (n / 10)) ≤ k) → length (decimal n) ≤ suc k
-    go true e f = rw (decimal-small n (ltb-true n 10 e)) (omega arith)
-    go false e f =
-        let q : 10 ≤ n = ltb-false n 10 e in
-        let l : length (decimal (n / 10)) ≤ k = f (some k (omega arith) (shorter q)) in
+    step : (n : ℕ) → 10 ≤ n → ((k : ℕ) → n / 10 < 10 ^ k → 0 < k → length (decimal (n / 10)) ≤ k) → (k : ℕ) → n < 10 ^ k → 0 < k → length (decimal n) ≤ k
+    step n q f zero h p = absurd (omega arith)
+    step n q f (suc zero) h p = absurd (omega arith)
+    step n q f (suc (suc k)) h p =
+        let l : length (decimal (n / 10)) ≤ suc k = f (suc k) (omega arith) (omega arith) in
         rw (decimal-step n q, length-append) (omega arith)
 
 pub decimal-some : (n : ℕ) → 0 < length (decimal n)
-decimal-some n = go (ltb n 10) refl
-  where
-    go : (b : Bool) → ltb n 10 ≡ b → 0 < length (decimal n)
-    go true e = rw (decimal-small n (ltb-true n 10 e)) (omega arith)
-    go false e = rw (decimal-step n (ltb-false n 10 e), length-append) (omega arith)
+decimal-some = by-digits (λ (n : ℕ). 0 < length (decimal n)) (λ n h. rw (decimal-small n h) (omega arith)) (λ n h l. rw (decimal-step n h, length-append) (omega arith))

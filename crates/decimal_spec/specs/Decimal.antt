@@ -1,6 +1,6 @@
 -- A number as decimal text, in ASCII.
 use mathlib.Core.List.{List, [], _∷_, _++_}
-use Prim.Native.Nat.{ℕ, zero, suc, _+_, _/_, _%_}
+use Prim.Native.Nat.{ℕ, zero, suc, _+_, _/_, _%_, _≤_}
 
 -- the digit of d, which is below 10
 abbrev pub digit : ℕ → ℕ
@@ -15,3 +15,8 @@ leading (suc k) (suc n) = leading k (suc n / 10) ++ (digit (suc n % 10) ∷ [])
 -- a number's digits, the most significant first, no zero in front
 unfoldable pub decimal : ℕ → List ℕ
 decimal n = leading (n / 10) (n / 10) ++ (digit (n % 10) ∷ [])
+
+-- every octet is a digit
+abbrev pub Digits : List ℕ → Type 0
+Digits [] = Unit
+Digits (d ∷ ds) = (48 ≤ d) × (d ≤ 57) × Digits ds

@@ -1,2 +1,3 @@
-pub mod Decimal
 pub mod Ascii
+pub mod Decimal
+pub mod Reading

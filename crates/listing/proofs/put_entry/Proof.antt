@@ -2,7 +2,6 @@
 use mathlib.Core.Path.{refl}
 use native.Mathlib.Omega.{arith}
 use lib.ListN.{length-append}
-use Rattle.decimal_spec.specs.Decimal.{decimal}
 use Rattle.listing.proofs.Lays.{both}
 use borrow.Author.Needs.{needs}
 use Rattle.listing.proofs.put_entry.Statement.{statement}
