@@ -4,7 +4,7 @@ ghost use Prim.Native.Nat.{_+_, _≤_};
 ghost use lib.ListN.{length, drop};
 ghost use Rattle.octets_spec.specs.Over.{over};
 ghost use Rattle.decimal_spec.specs.Decimal.{decimal};
-ghost use Rattle.decimal_spec.specs.Reading.{run, spelled, numberAt};
+ghost use Rattle.decimal_spec.specs.Reading.{run, valued, decimalAt};
 ghost use Rattle.decimal.specs.Digit.{DigitAt};
 use decimal_spec::Number;
 
@@ -40,8 +40,8 @@ fn digit_at(s: &[u8], at: usize) -> u64
 }
 
 // The number that the digits from `at` on spell, of which there may be none, if it is at most `most`.
-fn spelled_at(s: &[u8], at: usize, most: u64) -> Number
-    ensures { λ r. ⌜ r ≡ spelled most at (run (drop at (now (s .entry)))) ⌝ }
+fn valued_at(s: &[u8], at: usize, most: u64) -> Number
+    ensures { λ r. ⌜ r ≡ valued most at (run (drop at (now (s .entry)))) ⌝ }
 {
     let mut i = at;
     let mut v: u64 = 0;
@@ -63,17 +63,17 @@ fn spelled_at(s: &[u8], at: usize, most: u64) -> Number
 
 // The number at `at`, if it is at most `most`: at least one digit, and no zero in front of others.
 pub fn decimal_at(s: &[u8], at: usize, most: u64) -> Number
-    ensures { λ r. ⌜ r ≡ numberAt most (now (s .entry)) at ⌝ }
+    ensures { λ r. ⌜ r ≡ decimalAt most (now (s .entry)) at ⌝ }
 {
     let first = digit_at(s, at);
     if 9 < first {
         return Number::Bad;
     }
     if 0 < first {
-        return spelled_at(s, at, most);
+        return valued_at(s, at, most);
     }
     if digit_at(s, at + 1) < 10 {
         return Number::Bad;
     }
-    spelled_at(s, at, most)
+    valued_at(s, at, most)
 }

@@ -10,7 +10,7 @@ use lib.Seq.{append-snoc}
 use borrow.Author.Tests.{lt-ltb, le-leb, lt-leb, ltb-true, ltb-false, leb-true}
 use Rattle.form_spec.specs.Words.{choose, inRange}
 use Rattle.decimal_spec.specs.Decimal.{digit, decimal, Digits}
-use Rattle.decimal_spec.specs.Reading.{isDigit, run, valueFrom, value, canonical, spelled, numberAt}
+use Rattle.decimal_spec.specs.Reading.{isDigit, run, valueFrom, value, canonical, valued, decimalAt}
 use Rattle.decimal_spec.specs.declared.Number.the-variants.{Value, Bad}
 use Rattle.decimal_laws.proofs.Decimal.{decimal-small, decimal-step, by-digits}
 
@@ -57,18 +57,18 @@ run-digits [] rest p e = e
 run-digits (d ∷ ds) rest p e = rw (is-digit d (p .0) (p .1), run-digits ds rest (p .2) e)
 
 -- they are digits, and what is left starts with none
-pub record Splits (s : List ℕ) : Type 0 where
+pub record Fronted (s : List ℕ) : Type 0 where
   pub rest : List ℕ
   pub digits : Digits (run s)
   pub whole : s ≡ run s ++ rest
   pub apart : run rest ≡ []
 
-pub run-splits : (s : List ℕ) → Splits s
+pub run-front : (s : List ℕ) → Fronted s
 unfolding run
-run-splits [] = record { rest = []; digits = tt; whole = refl; apart = refl }
-run-splits (x ∷ xs) = go (isDigit x) refl (run-splits xs)
+run-front [] = record { rest = []; digits = tt; whole = refl; apart = refl }
+run-front (x ∷ xs) = go (isDigit x) refl (run-front xs)
   where
-    go : (b : Bool) → isDigit x ≡ b → Splits xs → Splits (x ∷ xs)
+    go : (b : Bool) → isDigit x ≡ b → Fronted xs → Fronted (x ∷ xs)
     go true e s =
         let d = digit-bounds x e in
         record {
@@ -162,8 +162,8 @@ canonical-decimal (d ∷ x ∷ ds) p e =
 
 -- a number's text, and behind it no digit, is read as that number
 pub reads-back : (most : ℕ) (s : List ℕ) (at n : ℕ) (rest : List ℕ) → n ≤ most → drop at s ≡ decimal n ++ rest → run rest ≡ []
-    → numberAt most s at ≡ Value n (at + length (decimal n))
-unfolding numberAt spelled choose
+    → decimalAt most s at ≡ Value n (at + length (decimal n))
+unfolding decimalAt valued choose
 reads-back most s at n rest h e a =
     let z : run (drop at s) ≡ decimal n = rw e (run-digits (decimal n) rest (decimal-digits n) a) in
     rw (z, decimal-canonical n, value-decimal n, le-leb n most h)
@@ -176,8 +176,8 @@ pub record Text (most : ℕ) (s : List ℕ) (at n end : ℕ) : Type 0 where
   pub apart : run rest ≡ []
   pub ends : end ≡ at + length (decimal n)
 
-pub is-text : (most : ℕ) (s : List ℕ) (at n end : ℕ) → numberAt most s at ≡ Value n end → Text most s at n end
-unfolding numberAt spelled choose
+pub is-text : (most : ℕ) (s : List ℕ) (at n end : ℕ) → decimalAt most s at ≡ Value n end → Text most s at n end
+unfolding decimalAt valued choose
 is-text most s at n end e = go (canonical ds) refl (leb (value ds) most) refl e
   where
     ds : List ℕ
@@ -186,7 +186,7 @@ is-text most s at n end e = go (canonical ds) refl (leb (value ds) most) refl e
     go : (a : Bool) → canonical ds ≡ a → (b : Bool) → leb (value ds) most ≡ b → choose a (choose b (Value (value ds) (at + length ds)) Bad) Bad ≡ Value n end → Text most s at n end
     go true p true q h =
         let v : value ds ≡ n = cc in
-        let k = run-splits (drop at s) in
+        let k = run-front (drop at s) in
         let t : decimal n ≡ ds = rw (← v) (canonical-decimal ds (k .digits) p) in
         record { small = rw v at (leb-true (value ds) most q); rest = k .rest; whole = rw t (k .whole); apart = k .apart; ends = rw t (cc) }
     go true p false q h = let z : _≡_ {A = ℕ} 0 1 = cc in absurd (omega arith)

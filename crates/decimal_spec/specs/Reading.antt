@@ -31,9 +31,9 @@ canonical (d ∷ []) = true
 canonical (d ∷ e ∷ ds) = ltb 48 d
 
 -- the number that the digits ds at offset at are, if it is at most `most`
-unfoldable pub spelled : (most at : ℕ) (ds : List ℕ) → Number
-spelled most at ds = choose (leb (value ds) most) (Value (value ds) (at + length ds)) Bad
+unfoldable pub valued : (most at : ℕ) (ds : List ℕ) → Number
+valued most at ds = choose (leb (value ds) most) (Value (value ds) (at + length ds)) Bad
 
 -- the number at offset at of s
-unfoldable pub numberAt : (most : ℕ) (s : List ℕ) (at : ℕ) → Number
-numberAt most s at = let ds = run (drop at s) in choose (canonical ds) (spelled most at ds) Bad
+unfoldable pub decimalAt : (most : ℕ) (s : List ℕ) (at : ℕ) → Number
+decimalAt most s at = let ds = run (drop at s) in choose (canonical ds) (valued most at ds) Bad

@@ -1,11 +1,9 @@
 -- The loop over a dump that lays a line a record: what is laid, and what is ahead, make the whole text.
 use mathlib.Core.Path.{_≡_, refl, sym, ap, ap₂, _∙_}
 use mathlib.Core.List.{List, [], _++_, append-assoc}
-use Prim.Native.Nat.{ℕ, _+_, _*_, _≤_, _<_}
+use Prim.Native.Nat.{ℕ, _+_, _*_, _≤_}
 use native.Mathlib.Omega.{arith}
 use lib.ListN.{length, drop}
-use borrow.Author.Tests.{lt-ltb, le-ltb}
-use Rattle.form_spec.specs.Words.{choose}
 use Rattle.form_spec.specs.Octets.{Octets}
 use Rattle.form_spec.specs.Shape.{St, noTable}
 use Rattle.form_spec.specs.Record.{Rec, size, next}
@@ -19,19 +17,9 @@ use Rattle.walk_spec.specs.Steps.{stepAt}
 use Rattle.walk_spec.specs.declared.Item.{Item}
 use Rattle.walk_spec.specs.declared.Step.the-variants.{End, Fault, Record}
 use Rattle.walk_laws.proofs.Goes.{Past, goes-to}
-use Rattle.listing_spec.specs.Text.{line, faultLine, tooLarge, recordLine, lines, walkText, listing}
+use Rattle.listing_spec.specs.Text.{line, faultLine, recordLine, lines, walkText}
 use Rattle.listing.specs.Lays.{Lays}
 use Rattle.listing.proofs.Lays.{both}
-
--- ---- a dump that is too large, and one that is not
-
-pub all-large : (longest : ℕ) (d : List ℕ) → 65536 < length d → listing longest d ≡ tooLarge
-unfolding listing choose
-all-large longest d h = rw (lt-ltb 65536 (length d) h)
-
-pub all-walked : (longest : ℕ) (d : List ℕ) → length d ≤ 65536 → listing longest d ≡ walkText longest 0 (walkAll (layout longest) d)
-unfolding listing choose
-all-walked longest d h = rw (le-ltb 65536 (length d) h)
 
 -- ---- the text of a walk, a step at a time
 

@@ -20,6 +20,7 @@
 --   numberAt       record_spec/specs/Reads   the number that reading gives the record that starts the octets
 --   Own, Placed    write_spec/specs/Only, form_spec/specs/Aligned  whose a record is; each number goes into its field, each part has its size
 --   numberFor      room_spec/specs/Room      the fault, then 15
+--   listing        listing_spec/specs/Text   the text that the program prints
 --   leftOf         cut_spec/specs/Answer     what is left of a dump, by `cut` of cut_spec/specs/Cut
 use mathlib.Core.Path.{_≡_, sym, _∙_}
 use mathlib.Core.Logic.{_↔_}
@@ -68,6 +69,7 @@ use Rattle.walk_spec.specs.Walked.{walked}
 use Rattle.walk_spec.specs.Steps.{stepAt}
 use Rattle.walk_spec.specs.Answer.{Steps}
 use Rattle.walk_spec.specs.declared.Step.{Step}
+use Rattle.listing_spec.specs.Text.{faultLine, lines, listing}
 use Rattle.cut_spec.specs.Cut.{mem}
 use Rattle.cut_spec.specs.Answer.{leftOf, cutAnswer, cutLeaves, Cuts}
 use Rattle.dagsumilat_spec.specs.declared.RecordAnswer.{RecordAnswer}
@@ -84,6 +86,7 @@ use Rattle.record_laws.proofs.Items as items
 use Rattle.record_laws.proofs.AsReader as as-reader
 use Rattle.walk_laws.proofs.Demand2 as dumps
 use Rattle.walk_laws.proofs.Steps as steps
+use Rattle.listing_laws.proofs.Listing as texts
 use Rattle.cut_laws.proofs.Answers as answers-of
 use Rattle.cut_laws.proofs.Demand3 as cuts
 use Rattle.cut_laws.proofs.Orders as orders
@@ -207,6 +210,10 @@ module _ (longest : ℕ) where
 
     pub met-entries-are-good : (one : ℕ → Entry) → Meets m one entryEnd entryOf n at stop its → Each (λ e. entryFault e ≡ 0) (met one entryEnd n at)
     met-entries-are-good one w = item.no-entry-fault m n at stop its one w
+
+  -- what the program prints of an accepted dump of at most 65,536 octets: a line for each record, then no fault and the dump's length
+  pub accepted-listing : (d : List ℕ) → length d ≤ 65536 → (s : Splits (layout longest) d) → listing longest d ≡ lines longest 0 (s .0) ++ faultLine 0 (length d)
+  accepted-listing d h s = texts.all-accepted longest d h s
 
   -- ==== Demand 3. A cut takes a window and a list of AS numbers; what it leaves is `leftOf`, the dump that document 01 defines.
 

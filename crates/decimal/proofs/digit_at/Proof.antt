@@ -1,7 +1,7 @@
 -- `decimal::digit_at` meets its contract.
 use native.Mathlib.Omega.{arith}
 use Rattle.decimal_laws.proofs.Reading.{no-digit-below, no-digit-above}
-use Rattle.decimal.proofs.Spelled.{past-end, no-digit, a-digit}
+use Rattle.decimal.proofs.Valued.{past-end, no-digit, a-digit}
 use borrow.Author.Needs.{needs}
 use Rattle.decimal.proofs.digit_at.Statement.{statement}
 use Rattle.decimal.proofs.digit_at.Tie as tie

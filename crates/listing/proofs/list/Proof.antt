@@ -3,7 +3,7 @@ use mathlib.Core.Path.{refl}
 use native.Mathlib.Omega.{arith}
 use Rattle.page_spec.specs.Bgp4mp.{longestMessage}
 use Rattle.listing.proofs.Lays.{front}
-use Rattle.listing.proofs.Listed.{all-large, all-walked}
+use Rattle.listing_laws.proofs.Listing.{all-large, all-walked}
 use borrow.Author.Needs.{needs}
 use Rattle.listing.proofs.list.Statement.{statement}
 use Rattle.listing.proofs.list.Tie as tie

@@ -1,11 +1,11 @@
--- `decimal::spelled_at` meets its contract.
+-- `decimal::valued_at` meets its contract.
 use Prim.Native.Nat.{_-_}
 use native.Mathlib.Omega.{arith}
 use lib.ListN.{length}
-use Rattle.decimal.proofs.Spelled.{Spelling, starts, done, turn, too-large}
+use Rattle.decimal.proofs.Valued.{Spelling, starts, done, turn, too-large}
 use borrow.Author.Needs.{needs}
-use Rattle.decimal.proofs.spelled_at.Statement.{statement}
-use Rattle.decimal.proofs.spelled_at.Tie as tie
+use Rattle.decimal.proofs.valued_at.Statement.{statement}
+use Rattle.decimal.proofs.valued_at.Tie as tie
 
 abbrev Inv-loop : tie.InvT-loop
 Inv-loop s at most i₀ v₀ i v = Spelling most s at i v
@@ -71,8 +71,8 @@ loop-again c =
     let d = q .digit-at .ensures .there (omega arith) in
     turn _ _ _ _ _ (turned q .loop .inv) _ (d .1) (omega arith)
 
-pub spelled-at-spec : {M : Type 1} → statement M
-spelled-at-spec =
+pub valued-at-spec : {M : Type 1} → statement M
+valued-at-spec =
     tie.close
     (tie.spec
     Inv-loop

@@ -10,7 +10,7 @@ use lib.Seq.{drop-cons}
 use borrow.Author.Tests.{le-leb, lt-leb}
 use Rattle.form_spec.specs.Words.{choose}
 use Rattle.decimal_spec.specs.Decimal.{digit}
-use Rattle.decimal_spec.specs.Reading.{isDigit, run, valueFrom, value, canonical, spelled, numberAt}
+use Rattle.decimal_spec.specs.Reading.{isDigit, run, valueFrom, value, canonical, valued, decimalAt}
 use Rattle.decimal_spec.specs.declared.Number.the-variants.{Value, Bad}
 use Rattle.decimal_laws.proofs.Reading.{is-digit, value-grows, canonical-first}
 use Rattle.decimal.specs.Digit.{DigitAt}
@@ -48,8 +48,8 @@ pub starts : (most : ℕ) (s : List ℕ) (at : ℕ) → Spelling most s at at 0
 starts most s at = record { small = omega arith; same = refl; ends = refl }
 
 module _ (most : ℕ) (s : List ℕ) (at i v : ℕ) (a : Spelling most s at i v) where
-  pub done : run (drop i s) ≡ [] → Value v i ≡ spelled most at (run (drop at s))
-  unfolding spelled choose valueFrom
+  pub done : run (drop i s) ≡ [] → Value v i ≡ valued most at (run (drop at s))
+  unfolding valued choose valueFrom
   done e =
       let w : v ≡ value (run (drop at s)) = rw e at (a .same) in
       let n : i ≡ at + length (run (drop at s)) = omega (arith, rw e at (a .ends)) in
@@ -65,8 +65,8 @@ module _ (most : ℕ) (s : List ℕ) (at i v : ℕ) (a : Spelling most s at i v)
     pub turn : v * 10 + d ≤ most → Spelling most s at (i + 1) (v * 10 + d)
     turn h = record { small = h; same = next; ends = omega (arith, rw e at (a .ends)) }
 
-    pub too-large : most < v * 10 + d → Bad ≡ spelled most at (run (drop at s))
-    unfolding spelled choose
+    pub too-large : most < v * 10 + d → Bad ≡ valued most at (run (drop at s))
+    unfolding valued choose
     too-large h =
         let g = value-grows (v * 10 + d) (run (drop (i + 1) s)) in
         rw (lt-leb (value (run (drop at s))) most (omega (arith, next)))
@@ -74,19 +74,19 @@ module _ (most : ℕ) (s : List ℕ) (at i v : ℕ) (a : Spelling most s at i v)
 -- ---- what the first digits say
 
 module _ (most : ℕ) (s : List ℕ) (at : ℕ) where
-  pub number-none : run (drop at s) ≡ [] → Bad ≡ numberAt most s at
-  unfolding numberAt choose canonical
+  pub number-none : run (drop at s) ≡ [] → Bad ≡ decimalAt most s at
+  unfolding decimalAt choose canonical
   number-none e = rw e
 
-  pub number-leads : (d : ℕ) (ds : List ℕ) → run (drop at s) ≡ digit d ∷ ds → 0 < d → spelled most at (run (drop at s)) ≡ numberAt most s at
-  unfolding numberAt choose
+  pub number-leads : (d : ℕ) (ds : List ℕ) → run (drop at s) ≡ digit d ∷ ds → 0 < d → valued most at (run (drop at s)) ≡ decimalAt most s at
+  unfolding decimalAt choose
   number-leads d ds e h = let c : canonical (run (drop at s)) ≡ true = rw e (canonical-first (digit d) ds (omega arith)) in rw c
 
   -- a digit by itself, and a zero in front of another
-  pub number-alone : (d : ℕ) (ds : List ℕ) → run (drop at s) ≡ digit d ∷ ds → ds ≡ [] → spelled most at (run (drop at s)) ≡ numberAt most s at
-  unfolding numberAt choose canonical
+  pub number-alone : (d : ℕ) (ds : List ℕ) → run (drop at s) ≡ digit d ∷ ds → ds ≡ [] → valued most at (run (drop at s)) ≡ decimalAt most s at
+  unfolding decimalAt choose canonical
   number-alone d ds e z = let c : canonical (run (drop at s)) ≡ true = rw (e, z) in rw c
 
-  pub number-zeros : (d e : ℕ) (ds es : List ℕ) → run (drop at s) ≡ digit d ∷ ds → d ≡ 0 → ds ≡ digit e ∷ es → Bad ≡ numberAt most s at
-  unfolding numberAt choose canonical
+  pub number-zeros : (d e : ℕ) (ds es : List ℕ) → run (drop at s) ≡ digit d ∷ ds → d ≡ 0 → ds ≡ digit e ∷ es → Bad ≡ decimalAt most s at
+  unfolding decimalAt choose canonical
   number-zeros d e ds es p z q = rw (p, q, z)
