@@ -82,7 +82,9 @@ void dagsumilat_cut(const uint8_t *dump, size_t dump_len, uint64_t from, uint64_
 void dagsumilat_record(const uint8_t *dump, size_t dump_len, size_t at, uint64_t table, uint64_t answer[10]);
 
 /*
- * The peer of a peer table that starts at `at`.
+ * The peer of a peer table that starts at `at`. To go through the peers of a table that dagsumilat_record has found good, begin where
+ * its answer[8] says and go on to answer[1], as often as its answer[9] says: these are its peers, none has a fault, and the last ends
+ * where the record does.
  *
  * answer[0]  0 or 5
  * answer[1]  where the next peer starts, or the field that is not complete
@@ -96,8 +98,8 @@ void dagsumilat_record(const uint8_t *dump, size_t dump_len, size_t at, uint64_t
 void dagsumilat_peer(const uint8_t *dump, size_t dump_len, size_t at, uint64_t answer[7]);
 
 /*
- * The entry of a RIB record that starts at `at`. Its index and attributes are not judged: in a record that dagsumilat_record has
- * found good they are good.
+ * The entry of a RIB record that starts at `at`; gone through as the peers of a table. Its index and attributes are not judged: in a
+ * record that dagsumilat_record has found good they are good.
  *
  * answer[0]  0 or 5
  * answer[1]  where the next entry starts, or the field that is not complete
