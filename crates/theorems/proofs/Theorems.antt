@@ -10,7 +10,7 @@
 --   Valid, write   form_spec/specs/Record    a well-formed record where a table is in force; its octets
 --   Splits         form_spec/specs/Dump      whole records, each valid where it stands, whose octets are the dump
 --   Tells          record_spec/specs/Tells   what a reader is told of the table in force
---   Agrees         record_spec/specs/Agrees  refused with the same number and place, or shown with every field as it is in the octets
+--   Agrees, Same   record_spec/specs/Agrees  refused with the same number and place, or shown with every field as it is in the octets
 --   again          record_spec/specs/Again   what is shown, handed to a writer
 --   Meets          record_spec/specs/Items   what going from item to item meets, against the items of a record; with `peerAt`, `peerOf` and
 --                                            the like, which say what is shown at an offset and what of an item's fields
@@ -22,7 +22,7 @@
 --   numberFor      room_spec/specs/Room      the fault, then 15
 --   listing        listing_spec/specs/Text   the text that the program prints
 --   leftOf         cut_spec/specs/Answer     what is left of a dump, by `cut` of cut_spec/specs/Cut
-use mathlib.Core.Path.{_≡_, sym, _∙_}
+use mathlib.Core.Path.{_≡_, refl, sym, _∙_}
 use mathlib.Core.Logic.{_↔_}
 use mathlib.Core.List.{List, [], _++_}
 use Prim.Native.Nat.{ℕ, suc, _+_, _≤_, _<_, min, max}
@@ -62,7 +62,7 @@ use Rattle.room_spec.specs.declared.Written.the-variants as answer
 use Rattle.write_spec.specs.Only.{only, Own}
 use Rattle.write_spec.specs.Verdict.{writerAnswer, writerLeaves, Writes}
 use Rattle.record_spec.specs.Tells.{Tells}
-use Rattle.record_spec.specs.Agrees.{Agrees, writerOf}
+use Rattle.record_spec.specs.Agrees.{Agrees, Same, writerOf}
 use Rattle.record_spec.specs.Again.{again}
 use Rattle.record_laws.proofs.Written.{Fair}
 use Rattle.walk_spec.specs.Walked.{walked}
@@ -147,6 +147,10 @@ module _ (longest : ℕ) where
   pub record-accepted-exactly : (t : Table) (st : St) → Tells t st → (s : List ℕ) → Octets s → 0 < length s
       → (fault (readOne longest t s) ≡ 0) ↔ ((r : Rec) × (q : List ℕ) × Valid (layout longest) st r × (write r ++ q ≡ s))
   record-accepted-exactly t st told s o some = accepts.accepts-one longest t st told s o some
+
+  -- each field shown is the one in the bytes: header, time, kind and every field of the record that the octets start with
+  pub fields-are-those-of-the-record : (t : Table) (st : St) → Tells t st → (s : List ℕ) → Octets s → (r : Rec) (q : List ℕ) → readRec (layout longest) st 0 s ≡ good r q → Same longest s r (readOne longest t s)
+  fields-are-those-of-the-record t st told s o r q e = items.read-same longest t st told s o r q e (readOne longest t s) refl
 
   -- writing what was read restores the bytes
   module _ (t : Table) (st : St) (told : Tells t st) (s : List ℕ) (o : Octets s) (some : 0 < length s) (good : fault (readOne longest t s) ≡ 0) where
