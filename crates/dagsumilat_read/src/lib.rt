@@ -6,6 +6,7 @@ ghost use Rattle.record_spec.specs.Answer.{noHeader, headerOf};
 ghost use Rattle.dagsumilat_spec.specs.Answers as answers;
 ghost use Rattle.dagsumilat_spec.specs.RecordAnswers.{tableByCount};
 ghost use Rattle.dagsumilat_spec.specs.ReadWords.{kindIn, kindOf, headWords, contentsWords, routeWords, peersWords, ribWords, sessionWords, wordsIn, bodyWords, readWords};
+ghost use Rattle.dagsumilat_read.specs.Each.{each};
 use dagsumilat_told::table_of;
 use parts::fault;
 use parts::place;
@@ -213,7 +214,7 @@ fn put_head(answer: &mut [u64; 20], x: Shown)
 }
 
 fn put_body(answer: &mut [u64; 20], w: [u64; 12])
-    ensures { λ _. ⌜ now (answer .exit) ≡ answers.wordsFrom 8 (now (answer .entry)) w ⌝ }
+    ensures { λ _. ⌜ now (answer .exit) ≡ answers.wordsFrom 8 (now (answer .entry)) (each w) ⌝ }
 {
     answer[8] = w[0];
     answer[9] = w[1];
