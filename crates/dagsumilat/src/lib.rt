@@ -18,16 +18,8 @@ ghost use Rattle.dagsumilat_spec.specs.WriteWords.{timeBy, Tells};
 ghost use Rattle.record_spec.specs.One.{readOne};
 ghost use Rattle.dagsumilat_spec.specs.ReadWords.{readWords};
 use cut::cut;
-use dagsumilat_read::read;
 use dagsumilat_spec::RecordAnswer;
 use dagsumilat_told::table_of;
-use dagsumilat_write::change;
-use dagsumilat_write::message;
-use dagsumilat_write::peer_table;
-use dagsumilat_write::rib;
-use dagsumilat_write::rib_generic;
-use dagsumilat_write::table_dump;
-use dagsumilat_write::unread;
 use look::count;
 use look::entry_count_at;
 use look::late_session_peer;
@@ -291,7 +283,7 @@ pub extern "C" fn dagsumilat_entry(dump: &[u8], at: usize, answer: &mut [u64; 6]
 pub extern "C" fn dagsumilat_read(octets: &[u8], table: u64, answer: &mut [u64; 20])
     ensures { λ _. ⌜ now (answer .exit) ≡ readWords (now (answer .entry)) (readOne longestMessage (tableByCount table) (now (octets .entry))) ⌝ }
 {
-    read(octets, table, answer);
+    dagsumilat_read::read(octets, table, answer);
 }
 
 // A record of an unread type.
@@ -308,7 +300,7 @@ pub extern "C" fn dagsumilat_write_unread(
 )
     ensures { λ _. ⌜ Tells (onlyType (unreads (microSize (timeBy timestamp micro microseconds))) longestMessage) noTable (unreadGiven (timeBy timestamp micro microseconds) ty subtype (now (contents .entry))) (now (out .entry)) (now (answer .entry)) (now (answer .exit)) (now (out .exit)) ⌝ }
 {
-    unread(
+    dagsumilat_write::unread(
         timestamp,
         micro,
         microseconds,
@@ -339,7 +331,7 @@ pub extern "C" fn dagsumilat_write_table_dump(
 )
     ensures { λ _. ⌜ Tells (onlySub tableDumps longestMessage) noTable (tableDumpGiven timestamp subtype view sequence (now (prefix .entry)) bits status originated (now (address .entry)) peer (now (attributes .entry))) (now (out .entry)) (now (answer .entry)) (now (answer .exit)) (now (out .exit)) ⌝ }
 {
-    table_dump(
+    dagsumilat_write::table_dump(
         timestamp,
         subtype,
         view,
@@ -369,7 +361,7 @@ pub extern "C" fn dagsumilat_write_peer_table(
 )
     ensures { λ _. ⌜ Tells (onlySub peerTables longestMessage) noTable (peerTableGiven timestamp collector (now (name .entry)) count (now (peers .entry))) (now (out .entry)) (now (answer .entry)) (now (answer .exit)) (now (out .exit)) ⌝ }
 {
-    peer_table(timestamp, collector, name, count, peers, out, answer);
+    dagsumilat_write::peer_table(timestamp, collector, name, count, peers, out, answer);
 }
 
 // A RIB record of one family.
@@ -388,7 +380,7 @@ pub extern "C" fn dagsumilat_write_rib(
 )
     ensures { λ _. ⌜ Tells (onlySub ribs longestMessage) (stateOf (tableByCount table)) (ribGiven timestamp subtype sequence bits (now (prefix .entry)) count (now (entries .entry))) (now (out .entry)) (now (answer .entry)) (now (answer .exit)) (now (out .exit)) ⌝ }
 {
-    rib(
+    dagsumilat_write::rib(
         timestamp,
         subtype,
         table,
@@ -419,7 +411,7 @@ pub extern "C" fn dagsumilat_write_rib_generic(
 )
     ensures { λ _. ⌜ Tells (onlySub genericRibs longestMessage) (stateOf (tableByCount table)) (ribGenericGiven timestamp sequence family safi bits (now (prefix .entry)) count (now (entries .entry))) (now (out .entry)) (now (answer .entry)) (now (answer .exit)) (now (out .exit)) ⌝ }
 {
-    rib_generic(
+    dagsumilat_write::rib_generic(
         timestamp,
         table,
         sequence,
@@ -454,7 +446,7 @@ pub extern "C" fn dagsumilat_write_change(
 )
     ensures { λ _. ⌜ Tells (onlySub changes longestMessage) noTable (changeGiven (timeBy timestamp micro microseconds) subtype peer local interface family (now (theirs .entry)) (now (ours .entry)) old new) (now (out .entry)) (now (answer .entry)) (now (answer .exit)) (now (out .exit)) ⌝ }
 {
-    change(
+    dagsumilat_write::change(
         timestamp,
         micro,
         microseconds,
@@ -491,7 +483,7 @@ pub extern "C" fn dagsumilat_write_message(
 )
     ensures { λ _. ⌜ Tells (onlySub messages longestMessage) noTable (messageGiven (timeBy timestamp micro microseconds) subtype peer local interface family (now (theirs .entry)) (now (ours .entry)) (now (message .entry))) (now (out .entry)) (now (answer .entry)) (now (answer .exit)) (now (out .exit)) ⌝ }
 {
-    message(
+    dagsumilat_write::message(
         timestamp,
         micro,
         microseconds,
