@@ -1,3 +1,4 @@
 pub mod Unjudged
 pub mod Items
 pub mod Numbers
+pub mod Words
