@@ -5,12 +5,15 @@
 ghost use Prim.Native.Nat.{_≤_, _<_};
 ghost use lib.ListN.{length};
 use libc::STDOUT_FILENO;
-use octets::{number, part};
+use octets::number;
+use octets::part;
 use record_spec::Table;
 use room_spec::Written;
-use write_bgp::{write_change, write_message};
+use write_bgp::write_change;
+use write_bgp::write_message;
 use write_peers::write_peer_table;
-use write_rib::{write_rib, write_rib_generic};
+use write_rib::write_rib;
+use write_rib::write_rib_generic;
 use write_spec::Time;
 use write_table_dump::write_table_dump;
 use write_unread::write_unread;
