@@ -53,10 +53,15 @@ impl Attributes {
     pub fn read(reader: &mut Reader) -> Result<Attributes, Fault> {
         let size = reader.u16()?;
         let octets = reader.take(usize::from(size))?;
-        Self::tile(octets).map_err(|_| Fault::AttributesDoNotTile)
+        Self::tile(octets)
     }
 
-    fn tile(octets: &[u8]) -> Result<Attributes, Fault> {
+    /// Attributes that fill the octets exactly.
+    pub fn tile(octets: &[u8]) -> Result<Attributes, Fault> {
+        Self::read_all(octets).map_err(|_| Fault::AttributesDoNotTile)
+    }
+
+    fn read_all(octets: &[u8]) -> Result<Attributes, Fault> {
         let mut reader = Reader::over(octets);
         let mut list = Vec::new();
         while !reader.is_empty() {

@@ -82,7 +82,11 @@ pub enum State {
 
 impl State {
     fn read(reader: &mut Reader) -> Result<State, Fault> {
-        match reader.u16()? {
+        reader.u16().and_then(State::of)
+    }
+
+    pub fn of(code: u16) -> Result<State, Fault> {
+        match code {
             1 => Ok(State::Idle),
             2 => Ok(State::Connect),
             3 => Ok(State::Active),
@@ -110,7 +114,7 @@ impl BgpMessage {
     const HEADER: usize = 19;
     const LARGEST: usize = 4096;
 
-    fn read(reader: &mut Reader) -> Result<BgpMessage, Fault> {
+    pub fn read(reader: &mut Reader) -> Result<BgpMessage, Fault> {
         let mut header = Reader::over(reader.take(Self::HEADER)?);
         let marker = header.array()?;
         let length = usize::from(header.u16()?);

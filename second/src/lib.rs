@@ -21,3 +21,4 @@ pub mod sample;
 pub mod table_dump;
 pub mod vectors;
 pub mod writer;
+pub mod writers;

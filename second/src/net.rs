@@ -12,7 +12,11 @@ pub enum Family {
 
 impl Family {
     pub fn read(reader: &mut Reader) -> Result<Family, Fault> {
-        match reader.u16()? {
+        reader.u16().and_then(Family::of)
+    }
+
+    pub fn of(code: u16) -> Result<Family, Fault> {
+        match code {
             1 => Ok(Family::V4),
             2 => Ok(Family::V6),
             _ => Err(Fault::BadFamily),
@@ -35,7 +39,11 @@ impl Family {
 
     /// Reads a prefix length and holds it against the family's size.
     pub fn read_prefix_length(self, reader: &mut Reader) -> Result<u8, Fault> {
-        let bits = reader.u8()?;
+        reader.u8().and_then(|bits| self.prefix_length(bits))
+    }
+
+    /// A prefix length that the family has.
+    pub fn prefix_length(self, bits: u8) -> Result<u8, Fault> {
         if bits > self.bits() {
             return Err(Fault::BadPrefixLength);
         }
@@ -51,7 +59,11 @@ pub enum Safi {
 
 impl Safi {
     pub fn read(reader: &mut Reader) -> Result<Safi, Fault> {
-        match reader.u8()? {
+        reader.u8().and_then(Safi::of)
+    }
+
+    pub fn of(code: u8) -> Result<Safi, Fault> {
+        match code {
             1 => Ok(Safi::Unicast),
             2 => Ok(Safi::Multicast),
             _ => Err(Fault::BadFamily),
@@ -155,8 +167,13 @@ pub struct Prefix {
 impl Prefix {
     pub fn read(reader: &mut Reader, family: Family) -> Result<Prefix, Fault> {
         let bits = family.read_prefix_length(reader)?;
-        let octets = reader.take(usize::from(bits).div_ceil(8))?.to_vec();
+        let octets = reader.take(Self::size(bits))?.to_vec();
         Ok(Prefix { bits, octets })
+    }
+
+    /// How many octets so many bits need.
+    pub fn size(bits: u8) -> usize {
+        usize::from(bits).div_ceil(8)
     }
 
     pub fn write(&self, writer: &mut Writer) {
