@@ -1,6 +1,6 @@
 //! What was compared, counted.
 
-use crate::making::{Field, Kind};
+use crate::making::{Field, Kind, Writer};
 use std::fmt;
 
 #[derive(Clone, Debug, PartialEq, Eq)]
@@ -19,6 +19,12 @@ pub struct Tally {
     pub items: u64,
     /// Calls at places and with tables that need not belong together.
     pub stray: u64,
+    /// Records read, by the number of their fault.
+    pub read: [u64; 14],
+    /// Records that were read and written again, in the order of [`Writer::ALL`].
+    pub back: [u64; Writer::ALL.len()],
+    /// Made-up calls of each writer, by their answer.
+    pub written: [[u64; 16]; Writer::ALL.len()],
     /// Cuts by their answer.
     pub cuts: [u64; 16],
     /// Cuts that leave something, but not the dump as it was.
@@ -40,6 +46,9 @@ impl Default for Tally {
             records: 0,
             items: 0,
             stray: 0,
+            read: [0; 14],
+            back: [0; Writer::ALL.len()],
+            written: [[0; 16]; Writer::ALL.len()],
             cuts: [0; 16],
             changed: 0,
             twice: 0,
@@ -69,7 +78,10 @@ impl Tally {
         }
         all(&mut self.kinds, &other.kinds);
         all(&mut self.faults, &other.faults);
+        all(&mut self.read, &other.read);
+        all(&mut self.back, &other.back);
         all(&mut self.cuts, &other.cuts);
+        self.written.iter_mut().zip(&other.written).for_each(|(to, from)| all(to, from));
         self.fields.iter_mut().zip(&other.fields).for_each(|(to, from)| all(to, from));
         self.itself += other.itself;
         self.dumps += other.dumps;
@@ -96,6 +108,10 @@ impl fmt::Display for Tally {
         writeln!(f, "{} more dumps, the library against itself", self.itself)?;
         writeln!(f, "{} records, {} peers and entries", self.records, self.items)?;
         writeln!(f, "{} calls at any place", self.stray)?;
+        writeln!(f, "records read, by fault, from 0 on: {:?}", self.read)?;
+        for ((writer, back), counts) in Writer::ALL.iter().zip(self.back).zip(self.written) {
+            writeln!(f, "  {writer:?}: {back} written again; by answer, from 0 on: {counts:?}")?;
+        }
         writeln!(f, "cuts by answer, from 0 on: {:?}", self.cuts)?;
         writeln!(f, "{} cuts leave something else than all or nothing", self.changed)?;
         write!(f, "{} cuts of cuts, {} cuts of two dumps end to end", self.twice, self.joined)
