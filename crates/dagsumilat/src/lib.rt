@@ -9,8 +9,17 @@ ghost use Rattle.look_spec.specs.Field.{typeOf, subtypeOf, itemsAt, countOf, Kn
 ghost use Rattle.look_spec.specs.Sort as sort;
 ghost use Rattle.dagsumilat_spec.specs.RecordAnswers.{none, tableByCount, countOfTable, noRecord, good, bySort, answerAt};
 ghost use Rattle.dagsumilat_spec.specs.Unjudged.{unjudgedAt};
+ghost use Rattle.form_spec.specs.Shape.{noTable};
+ghost use Rattle.record_spec.specs.Table.{stateOf};
+ghost use Rattle.write_spec.specs.Times.{microSize};
+ghost use Rattle.write_spec.specs.Only.{onlyType, onlySub, unreads, tableDumps, peerTables, ribs, genericRibs, changes, messages};
+ghost use Rattle.write_spec.specs.Givens.{unreadGiven, tableDumpGiven, peerTableGiven, ribGiven, ribGenericGiven, changeGiven, messageGiven};
+ghost use Rattle.dagsumilat_spec.specs.WriteWords.{timeBy, Tells};
+ghost use Rattle.record_spec.specs.One.{readOne};
+ghost use Rattle.dagsumilat_spec.specs.ReadWords.{readWords};
 use cut::cut;
 use dagsumilat_spec::RecordAnswer;
+use dagsumilat_told::table_of;
 use look::count;
 use look::entry_count_at;
 use look::late_session_peer;
@@ -73,15 +82,6 @@ pub extern "C" fn dagsumilat_cut(
             answer[2] = 0;
         }
     }
-}
-
-fn table_of(table: u64) -> Table
-    ensures { λ r. ⌜ r ≡ tableByCount table ⌝ }
-{
-    if table == 18446744073709551615 {
-        return Table::Absent;
-    }
-    Table::Holds(table)
 }
 
 fn count_of_table(t: Table) -> u64
@@ -276,4 +276,226 @@ pub extern "C" fn dagsumilat_entry(dump: &[u8], at: usize, answer: &mut [u64; 6]
             answer[5] = 0;
         }
     }
+}
+
+// One record, all its fields; `table` is the number of peers of the table in force.
+#[no_mangle]
+pub extern "C" fn dagsumilat_read(octets: &[u8], table: u64, answer: &mut [u64; 20])
+    ensures { λ _. ⌜ now (answer .exit) ≡ readWords (now (answer .entry)) (readOne longestMessage (tableByCount table) (now (octets .entry))) ⌝ }
+{
+    dagsumilat_read::read(octets, table, answer);
+}
+
+// A record of an unread type.
+#[no_mangle]
+pub extern "C" fn dagsumilat_write_unread(
+    timestamp: u64,
+    micro: u64,
+    microseconds: u64,
+    ty: u64,
+    subtype: u64,
+    contents: &[u8],
+    out: &mut [u8],
+    answer: &mut [u64; 2],
+)
+    ensures { λ _. ⌜ Tells (onlyType (unreads (microSize (timeBy timestamp micro microseconds))) longestMessage) noTable (unreadGiven (timeBy timestamp micro microseconds) ty subtype (now (contents .entry))) (now (out .entry)) (now (answer .entry)) (now (answer .exit)) (now (out .exit)) ⌝ }
+{
+    dagsumilat_write::unread(
+        timestamp,
+        micro,
+        microseconds,
+        ty,
+        subtype,
+        contents,
+        out,
+        answer,
+    );
+}
+
+// A record of type 12.
+#[no_mangle]
+pub extern "C" fn dagsumilat_write_table_dump(
+    timestamp: u64,
+    subtype: u64,
+    view: u64,
+    sequence: u64,
+    prefix: &[u8],
+    bits: u64,
+    status: u64,
+    originated: u64,
+    address: &[u8],
+    peer: u64,
+    attributes: &[u8],
+    out: &mut [u8],
+    answer: &mut [u64; 2],
+)
+    ensures { λ _. ⌜ Tells (onlySub tableDumps longestMessage) noTable (tableDumpGiven timestamp subtype view sequence (now (prefix .entry)) bits status originated (now (address .entry)) peer (now (attributes .entry))) (now (out .entry)) (now (answer .entry)) (now (answer .exit)) (now (out .exit)) ⌝ }
+{
+    dagsumilat_write::table_dump(
+        timestamp,
+        subtype,
+        view,
+        sequence,
+        prefix,
+        bits,
+        status,
+        originated,
+        address,
+        peer,
+        attributes,
+        out,
+        answer,
+    );
+}
+
+// A peer table.
+#[no_mangle]
+pub extern "C" fn dagsumilat_write_peer_table(
+    timestamp: u64,
+    collector: u64,
+    name: &[u8],
+    count: u64,
+    peers: &[u8],
+    out: &mut [u8],
+    answer: &mut [u64; 2],
+)
+    ensures { λ _. ⌜ Tells (onlySub peerTables longestMessage) noTable (peerTableGiven timestamp collector (now (name .entry)) count (now (peers .entry))) (now (out .entry)) (now (answer .entry)) (now (answer .exit)) (now (out .exit)) ⌝ }
+{
+    dagsumilat_write::peer_table(timestamp, collector, name, count, peers, out, answer);
+}
+
+// A RIB record of one family.
+#[no_mangle]
+pub extern "C" fn dagsumilat_write_rib(
+    timestamp: u64,
+    subtype: u64,
+    table: u64,
+    sequence: u64,
+    bits: u64,
+    prefix: &[u8],
+    count: u64,
+    entries: &[u8],
+    out: &mut [u8],
+    answer: &mut [u64; 2],
+)
+    ensures { λ _. ⌜ Tells (onlySub ribs longestMessage) (stateOf (tableByCount table)) (ribGiven timestamp subtype sequence bits (now (prefix .entry)) count (now (entries .entry))) (now (out .entry)) (now (answer .entry)) (now (answer .exit)) (now (out .exit)) ⌝ }
+{
+    dagsumilat_write::rib(
+        timestamp,
+        subtype,
+        table,
+        sequence,
+        bits,
+        prefix,
+        count,
+        entries,
+        out,
+        answer,
+    );
+}
+
+// A RIB record of subtype 6.
+#[no_mangle]
+pub extern "C" fn dagsumilat_write_rib_generic(
+    timestamp: u64,
+    table: u64,
+    sequence: u64,
+    family: u64,
+    safi: u64,
+    bits: u64,
+    prefix: &[u8],
+    count: u64,
+    entries: &[u8],
+    out: &mut [u8],
+    answer: &mut [u64; 2],
+)
+    ensures { λ _. ⌜ Tells (onlySub genericRibs longestMessage) (stateOf (tableByCount table)) (ribGenericGiven timestamp sequence family safi bits (now (prefix .entry)) count (now (entries .entry))) (now (out .entry)) (now (answer .entry)) (now (answer .exit)) (now (out .exit)) ⌝ }
+{
+    dagsumilat_write::rib_generic(
+        timestamp,
+        table,
+        sequence,
+        family,
+        safi,
+        bits,
+        prefix,
+        count,
+        entries,
+        out,
+        answer,
+    );
+}
+
+// A state change.
+#[no_mangle]
+pub extern "C" fn dagsumilat_write_change(
+    timestamp: u64,
+    micro: u64,
+    microseconds: u64,
+    subtype: u64,
+    peer: u64,
+    local: u64,
+    interface: u64,
+    family: u64,
+    theirs: &[u8],
+    ours: &[u8],
+    old: u64,
+    new: u64,
+    out: &mut [u8],
+    answer: &mut [u64; 2],
+)
+    ensures { λ _. ⌜ Tells (onlySub changes longestMessage) noTable (changeGiven (timeBy timestamp micro microseconds) subtype peer local interface family (now (theirs .entry)) (now (ours .entry)) old new) (now (out .entry)) (now (answer .entry)) (now (answer .exit)) (now (out .exit)) ⌝ }
+{
+    dagsumilat_write::change(
+        timestamp,
+        micro,
+        microseconds,
+        subtype,
+        peer,
+        local,
+        interface,
+        family,
+        theirs,
+        ours,
+        old,
+        new,
+        out,
+        answer,
+    );
+}
+
+// A BGP message.
+#[no_mangle]
+pub extern "C" fn dagsumilat_write_message(
+    timestamp: u64,
+    micro: u64,
+    microseconds: u64,
+    subtype: u64,
+    peer: u64,
+    local: u64,
+    interface: u64,
+    family: u64,
+    theirs: &[u8],
+    ours: &[u8],
+    message: &[u8],
+    out: &mut [u8],
+    answer: &mut [u64; 2],
+)
+    ensures { λ _. ⌜ Tells (onlySub messages longestMessage) noTable (messageGiven (timeBy timestamp micro microseconds) subtype peer local interface family (now (theirs .entry)) (now (ours .entry)) (now (message .entry))) (now (out .entry)) (now (answer .entry)) (now (answer .exit)) (now (out .exit)) ⌝ }
+{
+    dagsumilat_write::message(
+        timestamp,
+        micro,
+        microseconds,
+        subtype,
+        peer,
+        local,
+        interface,
+        family,
+        theirs,
+        ours,
+        message,
+        out,
+        answer,
+    );
 }

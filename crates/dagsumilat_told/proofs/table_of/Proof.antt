@@ -1,8 +1,8 @@
--- `dagsumilat::table_of` meets its contract.
+-- `dagsumilat_told::table_of` meets its contract.
 use borrow.Author.Tests.{ne-eqb}
 use Rattle.form_spec.specs.Words.{choose}
-use Rattle.dagsumilat.proofs.table_of.Statement.{statement}
-use Rattle.dagsumilat.proofs.table_of.Tie as tie
+use Rattle.dagsumilat_told.proofs.table_of.Statement.{statement}
+use Rattle.dagsumilat_told.proofs.table_of.Tie as tie
 
 returns : tie.Need-returns
 unfolding choose
