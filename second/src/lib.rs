@@ -20,5 +20,6 @@ pub mod rib;
 pub mod sample;
 pub mod table_dump;
 pub mod vectors;
+pub mod write_cases;
 pub mod writer;
 pub mod writers;

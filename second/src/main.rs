@@ -6,6 +6,7 @@ use second::dump::Dump;
 use second::listing::listing;
 use second::sample;
 use second::vectors::Suite;
+use second::write_cases;
 use std::io::{self, Write};
 use std::path::Path;
 use std::process::ExitCode;
@@ -17,6 +18,7 @@ const USAGE: &str = "usage: second list FILE..
        second cut FILE START END [AS..] > OUT
        second vectors DIR
        second cuts DIR
+       second writes DIR
        second sample FILE";
 
 fn main() -> ExitCode {
@@ -41,6 +43,9 @@ fn run(arguments: &[String]) -> io::Result<bool> {
         ("vectors", [directory]) => Suite::generate().write_to(Path::new(directory)).map(|()| true),
         ("cut", [file, start, end, list @ ..]) => cut_file(file, start, end, list),
         ("cuts", [directory]) => Book::generate().write_to(Path::new(directory)).map(|()| true),
+        ("writes", [directory]) => {
+            write_cases::Book::generate().write_to(Path::new(directory)).map(|()| true)
+        }
         ("sample", [file]) => fs::write(file, sample::octets()).map(|()| true),
         _ => Err(io::Error::other(USAGE)),
     }

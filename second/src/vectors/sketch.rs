@@ -62,6 +62,15 @@ impl Sketch {
         changed
     }
 
+    /// The same, for fields of the header too.
+    pub fn with(&self, name: &str, value: u64) -> Sketch {
+        match name {
+            "timestamp" => self.clone().at(value as u32),
+            "subtype" => self.retyped(self.code, value as u16),
+            _ => self.set_n(name, value),
+        }
+    }
+
     /// The same record without anything behind the named field.
     pub fn up_to(&self, name: &str) -> Sketch {
         let mut changed = self.clone();
