@@ -60,3 +60,28 @@ pub fn compare_one(
     tally.written[Writer::of(given) as usize][usize::from(expected.fault)] += 1;
     Ok(())
 }
+
+#[cfg(test)]
+mod tests {
+    use crate::walls::Walled;
+    use dagsumilat::calls::writers::{Time, Unread};
+
+    /// Contents of 4 GiB, of which no octet is looked at. The second program would copy them, so
+    /// these answers are document 01's.
+    #[test]
+    fn a_message_past_32_bits_of_length() {
+        let memory = Walled::<u8>::new(1 << 32);
+        for (type_code, size, fault) in [
+            (11, (1 << 32) - 1, 15),
+            (11, 1 << 32, 6),
+            (33, (1 << 32) - 5, 15),
+            (33, (1 << 32) - 4, 6),
+        ] {
+            let time = Time { timestamp: 1, has_microseconds: type_code / 33, microseconds: 0 };
+            let contents = &memory.numbers()[..size];
+            let (mut out, mut answer) = ([7; 100], [7; 2]);
+            Unread { time, type_code, subtype: 0, contents }.write(&mut out, &mut answer);
+            assert_eq!((answer, out), ([fault, 0], [7; 100]), "type {type_code}, {size} octets");
+        }
+    }
+}
