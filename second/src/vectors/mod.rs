@@ -1,6 +1,7 @@
 //! Dumps made up for comparing two programs, good ones and spoiled ones.
 
 mod appendix_a;
+mod bits;
 mod checks;
 mod cuts;
 mod examples;
@@ -47,6 +48,7 @@ impl Suite {
         cuts::add(&mut suite);
         checks::add(&mut suite);
         tables::add(&mut suite);
+        bits::add(&mut suite);
         order::add(&mut suite);
         places::add(&mut suite);
         random::add(&mut suite);
