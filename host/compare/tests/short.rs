@@ -7,9 +7,10 @@ use compare::desks::Desks;
 use compare::making::Writer;
 use compare::running::compare_seeds;
 use compare::tally::Tally;
-use second::cut_cases::Book;
+use compare::writing::{self, Flag};
 use second::vectors::rng::Rng;
 use second::vectors::Suite;
+use second::{cut_cases, write_cases};
 use std::env;
 
 /// How many dumps are made, if COMPARE_DUMPS does not say it. With fewer than some 4,000 not every
@@ -87,7 +88,7 @@ fn the_suite_shows_no_difference() {
 #[test]
 fn the_book_shows_no_difference() {
     let (mut desks, mut tally, mut rng) = (Desks::default(), Tally::default(), Rng::seeded(2));
-    for (name, case) in Book::generate().iter() {
+    for (name, case) in cut_cases::Book::generate().iter() {
         let (from, to, list) = (case.ask.start, case.ask.end, case.ask.list.clone());
         desks.dump.lay(&case.dump, Spots::default());
         compare_room(&case.dump, &Ask { from, to, list }, case.room, &mut desks.dump, &mut tally)
@@ -95,4 +96,19 @@ fn the_book_shows_no_difference() {
             .unwrap_or_else(|told| panic!("{name}: {told}"));
     }
     assert!(tally.changed > 0 && tally.cuts[14] > 0 && tally.cuts[15] > 0, "{tally}");
+}
+
+/// The second program's book of records to be written, each made for one field or for two.
+#[test]
+fn the_book_of_writers_shows_no_difference() {
+    let (mut desks, mut tally, mut rng) = (Desks::default(), Tally::default(), Rng::seeded(3));
+    for (name, case) in write_cases::Book::generate().iter() {
+        let spots = writing::Spots::draw(&mut rng);
+        let (desk, tally) = (&mut desks.record, &mut tally);
+        writing::compare_one(&case.given, Flag::USUAL, case.room, &spots, desk, tally)
+            .unwrap_or_else(|told| panic!("{name}: {told}"));
+    }
+    for writer in Writer::ALL {
+        answers_are_met(writer, &tally);
+    }
 }

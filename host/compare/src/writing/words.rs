@@ -68,7 +68,7 @@ pub fn lent<'a>(given: &Given, parts: [&'a [u8]; PARTS], flag: Flag) -> calls::G
         Given::Rib(it) => calls::Given::Rib(calls::Rib {
             timestamp: it.timestamp,
             subtype: it.subtype,
-            table: it.table.unwrap_or(NONE),
+            table: table(it.table),
             sequence: it.sequence,
             prefix_length: it.routes.bits,
             prefix: first,
@@ -77,7 +77,7 @@ pub fn lent<'a>(given: &Given, parts: [&'a [u8]; PARTS], flag: Flag) -> calls::G
         }),
         Given::RibGeneric(it) => calls::Given::RibGeneric(calls::RibGeneric {
             timestamp: it.timestamp,
-            table: it.table.unwrap_or(NONE),
+            table: table(it.table),
             sequence: it.sequence,
             family: it.family,
             safi: it.safi,
@@ -100,6 +100,12 @@ pub fn lent<'a>(given: &Given, parts: [&'a [u8]; PARTS], flag: Flag) -> calls::G
             message: third,
         }),
     }
+}
+
+/// The calls have no word for a table of as many peers as a word can count; to an index of 16 bits
+/// one fewer are as many.
+fn table(peers: Option<u64>) -> u64 {
+    peers.map_or(NONE, |peers| peers.min(NONE - 1))
 }
 
 fn time(time: Time, flag: Flag) -> calls::Time {
