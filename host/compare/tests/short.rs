@@ -52,6 +52,8 @@ fn is_telling(tally: &Tally) {
     assert!(!tally.back.contains(&0), "a kind of record never written again:\n{tally}");
     for writer in Writer::ALL {
         answers_are_met(writer, tally);
+        let fewest = tally.slips[writer as usize].fewest(writer);
+        assert!(fewest * 1000 > tally.dumps, "{writer:?}, two fields rarely at fault:\n{tally}");
     }
     assert!(tally.records > tally.dumps && tally.items > tally.dumps, "few records:\n{tally}");
 }

@@ -40,6 +40,22 @@ impl Writer {
         }
     }
 
+    /// The most turns that one has.
+    pub const MOST_TURNS: usize = 11;
+
+    /// How many turns its fields have: one each, but two for entries and for a message, and none
+    /// for contents, which are never at fault.
+    pub fn turns(self) -> usize {
+        match self {
+            Writer::Unread => 4,
+            Writer::TableDump => 11,
+            Writer::PeerTable => 5,
+            Writer::Rib => 9,
+            Writer::RibGeneric => 10,
+            Writer::Change | Writer::Message => 11,
+        }
+    }
+
     /// The numbers that it can answer, by document 01's table and its fields.
     pub fn answers(self) -> &'static [u8] {
         match self {
@@ -54,25 +70,24 @@ impl Writer {
     }
 }
 
-/// A turn past the last field of every writer.
-const TURNS: usize = 14;
+/// A call of a writer.
+pub struct MadeGiven {
+    pub given: Given,
+    /// Which turns slipped.
+    pub slipped: [bool; Writer::MOST_TURNS],
+}
 
-pub fn given(writer: Writer, rng: &mut Rng) -> Given {
+pub fn given(writer: Writer, rng: &mut Rng) -> MadeGiven {
+    let turns = writer.turns();
     let slips = match rng.below(5) {
         0 => Slips::None,
         1 => Slips::Often,
-        _ => Slips::Two([rng.below(TURNS), rng.below(TURNS)]),
+        _ => Slips::Two([rng.below(turns), rng.below(turns)]),
     };
-    let mut maker = GivenMaker { rng, slips, turn: 0 };
-    match writer {
-        Writer::Unread => Given::Unread(maker.unread()),
-        Writer::TableDump => Given::TableDump(maker.table_dump()),
-        Writer::PeerTable => Given::PeerTable(maker.peer_table()),
-        Writer::Rib => Given::Rib(maker.rib()),
-        Writer::RibGeneric => Given::RibGeneric(maker.rib_generic()),
-        Writer::Change => Given::Change(maker.change()),
-        Writer::Message => Given::Message(maker.message()),
-    }
+    let mut maker = GivenMaker { rng, slips, slipped: [false; Writer::MOST_TURNS], turn: 0 };
+    let given = maker.given(writer);
+    debug_assert_eq!(maker.turn, turns, "{writer:?}");
+    MadeGiven { given, slipped: maker.slipped }
 }
 
 /// Room about the size of what is written; any where nothing is.
@@ -98,19 +113,34 @@ enum Slips {
 struct GivenMaker<'a> {
     rng: &'a mut Rng,
     slips: Slips,
-    /// How many fields have been made.
+    slipped: [bool; Writer::MOST_TURNS],
+    /// How many turns there have been.
     turn: usize,
 }
 
 impl GivenMaker<'_> {
-    /// Asked once for each field.
+    fn given(&mut self, writer: Writer) -> Given {
+        match writer {
+            Writer::Unread => Given::Unread(self.unread()),
+            Writer::TableDump => Given::TableDump(self.table_dump()),
+            Writer::PeerTable => Given::PeerTable(self.peer_table()),
+            Writer::Rib => Given::Rib(self.rib()),
+            Writer::RibGeneric => Given::RibGeneric(self.rib_generic()),
+            Writer::Change => Given::Change(self.change()),
+            Writer::Message => Given::Message(self.message()),
+        }
+    }
+
+    /// Asked once in each turn.
     fn slip(&mut self) -> bool {
-        self.turn += 1;
-        match self.slips {
+        let slips = match self.slips {
             Slips::None => false,
             Slips::Often => self.rng.below(4) == 0,
-            Slips::Two(turns) => turns.contains(&(self.turn - 1)),
-        }
+            Slips::Two(turns) => turns.contains(&self.turn),
+        };
+        self.slipped[self.turn] = slips;
+        self.turn += 1;
+        slips
     }
 
     /// A number of so many octets; a slip is too large, and often the same in its low bits as one
@@ -158,13 +188,13 @@ impl GivenMaker<'_> {
         self.number(4)
     }
 
-    /// Some seconds, and microseconds to be put behind the header's other fields.
+    /// Half of them have no microseconds, whatever became of that turn.
     fn time(&mut self) -> Time {
-        let seconds = self.timestamp();
+        let (seconds, micro) = (self.timestamp(), self.number(4));
         if self.rng.below(2) == 0 {
             return Time::Seconds(seconds);
         }
-        Time::Micro { seconds, micro: self.number(4) }
+        Time::Micro { seconds, micro }
     }
 
     fn unread(&mut self) -> Unread {

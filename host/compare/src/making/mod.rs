@@ -11,7 +11,7 @@ mod records;
 
 pub use asks::{ask, Known};
 pub use fields::Field;
-pub use given::{given, room, Writer};
+pub use given::{given, room, MadeGiven, Writer};
 pub use records::Maker;
 
 use second::cut_cases;

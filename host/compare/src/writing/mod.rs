@@ -7,7 +7,7 @@ mod words;
 pub use desk::{Spots, WritingDesk};
 pub use words::{Flag, Shown};
 
-use crate::making::{self, Writer};
+use crate::making::{self, MadeGiven, Writer};
 use crate::tally::Tally;
 use crate::telling::{same, Told};
 use second::vectors::rng::Rng;
@@ -34,11 +34,12 @@ pub fn write_back(
 /// One call of each writer.
 pub fn compare(rng: &mut Rng, desk: &mut WritingDesk, tally: &mut Tally) -> Told<()> {
     for writer in Writer::ALL {
-        let given = making::given(writer, rng);
+        let MadeGiven { given, slipped } = making::given(writer, rng);
         let flag = Flag { yes: rng.word().max(1), idle: rng.word() };
         let size = given.record().map_or(0, |octets| octets.len());
         let room = making::room(size, rng);
         compare_one(&given, flag, room, &Spots::draw(rng), desk, tally)?;
+        tally.slips[writer as usize].count(&slipped);
     }
     Ok(())
 }
