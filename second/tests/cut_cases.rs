@@ -1,7 +1,7 @@
 //! The made-up cuts against what their makers meant, and their files.
 
 use second::cut::cut;
-use second::cut_cases::{text, Book};
+use second::cut_cases::{adler32, text, Book};
 use std::collections::BTreeSet;
 
 #[test]
@@ -28,10 +28,11 @@ fn sizes_are_as_wanted() {
     let book = Book::generate();
     let sizes: Vec<usize> = book.iter().map(|(_, case)| case.to_octets().len()).collect();
     assert!(sizes.len() >= 400);
-    assert!(sizes.iter().sum::<usize>() < 700_000);
+    assert!(sizes.iter().sum::<usize>() < 1_200_000);
+    assert!(sizes.iter().all(|size| *size <= 524_288));
     let small = sizes.iter().filter(|size| **size < 2_000).count();
     assert!(small * 100 >= sizes.len() * 95);
-    assert!(book.iter().all(|(_, case)| case.room <= 65_536));
+    assert!(book.iter().all(|(_, case)| case.room <= 524_288));
 }
 
 #[test]
@@ -92,6 +93,13 @@ fn texts() {
          1e0000001e00000005000d00020000002e0000002a17c6336500010000000003\n\
          eb001c4001010040020e02030000fbf00000fbf10000fbf2400304c6336407\n",
     );
+}
+
+/// RFC 1950's sums by hand: 1 + 97 + 98 + 99, and 98 + 196 + 295.
+#[test]
+fn checksum() {
+    assert_eq!(adler32(b""), 1);
+    assert_eq!(adler32(b"abc"), 589 * 65_536 + 295);
 }
 
 #[test]

@@ -30,6 +30,7 @@ fn sizes_are_as_wanted() {
     assert!(sizes.iter().sum::<usize>() < 700_000);
     assert!(sizes.iter().all(|size| *size <= 131_072));
     assert!(book.iter().all(|(_, case)| case.room <= 131_072));
+    assert!(book.iter().all(|(_, case)| case.intent.octets.len() <= 65_536));
     assert!(book.stdout().len() < 300_000);
 }
 

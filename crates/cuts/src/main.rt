@@ -1,7 +1,7 @@
 // Runs the cut that each file holds which an argument names: start and end of the window (8 octets each), the room lent (4), the
-// number of muted AS numbers (2), these (4 each), and the dump. Prints the answer, the octets written, and whether the rest of
-// the room is as it was.
-ghost use Prim.Native.Nat.{_+_, _*_, _≤_};
+// number of muted AS numbers (2), these (4 each), and the dump. Prints the answer, the octets written (of more than 65,536 their
+// Adler-32, as RFC 1950 has it), and whether the rest of the room is as it was.
+ghost use Prim.Native.Nat.{_+_, _*_, _≤_, _<_};
 ghost use lib.ListN.{length};
 use libc::STDOUT_FILENO;
 use octets::number;
@@ -19,7 +19,9 @@ fn answer(fault: u8, place: usize, octets: usize) {
     io::write_all(STDOUT_FILENO, b"\n");
 }
 
-fn wide(x: u8) -> u64 {
+fn wide(x: u8) -> u64
+    ensures { λ r. ⌜ r < 256 ⌝ }
+{
     x as u64
 }
 
@@ -38,6 +40,32 @@ fn octets(out: &[u8], n: usize)
     if n % 32 != 0 {
         io::write_all(STDOUT_FILENO, b"\n");
     }
+}
+
+// The Adler-32 of the first n octets.
+fn digest(out: &[u8], n: usize)
+    requires { ⌜ n ≤ length (now out) ⌝ }
+{
+    let mut low: u64 = 1;
+    let mut high: u64 = 0;
+    let mut i = 0;
+    while i < n {
+        low = (low + wide(out[i])) % 65521;
+        high = (high + low) % 65521;
+        i += 1;
+    }
+    key(b"adler32=", 65536 * high + low);
+    io::write_all(STDOUT_FILENO, b"\n");
+}
+
+fn written(out: &[u8], n: usize)
+    requires { ⌜ n ≤ length (now out) ⌝ }
+{
+    if 65536 < n {
+        digest(out, n);
+        return;
+    }
+    octets(out, n)
 }
 
 // Whether the octets from n on are as they were.
@@ -70,7 +98,7 @@ fn report(r: Written, out: &[u8]) {
         Written::Octets(n) => {
             answer(0, 0, n);
             if n <= out.len() {
-                octets(out, n);
+                written(out, n);
             }
             rest(out, n);
         }
@@ -122,11 +150,11 @@ fn one(i: usize) {
         os::fail(&path[..n]);
         return;
     }
-    let mut file = [0u8; 131072];
+    let mut file = [0u8; 524288];
     let got = io::read_full(fd, &mut file);
     libc::close(fd);
     let mut mutes = [0u32; 65536];
-    let mut out = [165u8; 65536];
+    let mut out = [165u8; 524288];
     case(&file[..got], &mut mutes, &mut out);
 }
 

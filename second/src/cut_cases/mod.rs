@@ -2,6 +2,7 @@
 
 mod examples;
 mod faults;
+mod large;
 mod micros;
 mod numbers;
 mod parts;
@@ -73,12 +74,29 @@ impl Case {
     }
 }
 
+/// More octets than this are told by their Adler-32 alone.
+const LISTED: usize = 65_536;
+
 /// The lines that another program shall print for a case.
 pub fn text(name: &str, answer: &Answer) -> String {
     let Answer { fault, place, octets } = answer;
     let first = format!("{name}\nfault={fault} place={place} octets={}\n", octets.len());
-    let middle: String = octets.chunks(32).map(hex_line).collect();
+    let middle: String = if octets.len() > LISTED {
+        format!("adler32={}\n", adler32(octets))
+    } else {
+        octets.chunks(32).map(hex_line).collect()
+    };
     first + &middle + "rest=ok\n"
+}
+
+/// RFC 1950's checksum.
+pub fn adler32(octets: &[u8]) -> u32 {
+    let (mut low, mut high) = (1, 0);
+    for octet in octets {
+        low = (low + u32::from(*octet)) % 65_521;
+        high = (high + low) % 65_521;
+    }
+    high << 16 | low
 }
 
 fn hex_line(octets: &[u8]) -> String {
@@ -104,6 +122,7 @@ impl Book {
         tables::add(&mut book);
         rooms::add(&mut book);
         faults::add(&mut book);
+        large::add(&mut book);
         random::add(&mut book);
         book
     }

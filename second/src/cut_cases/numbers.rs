@@ -14,6 +14,7 @@ pub fn add(book: &mut Book) {
         sessions(book, 17, asn);
         old_routes(book, asn);
     }
+    each_bit(book);
     short_lists(book);
     long_lists(book);
     paths(book);
@@ -61,6 +62,34 @@ fn old_routes(book: &mut Book, asn: u32) {
     let left: Vec<_> =
         all.into_iter().filter(|peer| u32::from(*peer) != asn).flat_map(both).collect();
     book.left(format!("as-{asn}-type-12"), &Ask::whole().muting(&[asn]), &dump, &left);
+}
+
+/// Numbers of four octets that differ from 10 in one bit alone, each of them,
+/// and 10 itself between them.
+fn each_bit(book: &mut Book) {
+    let mut all: Vec<Member> =
+        (0..32).map(|bit| Member { octet: 2, asn: 10 ^ 1 << bit, tag: 100 + bit as u8 }).collect();
+    all.insert(17, Member { octet: 2, asn: 10, tag: 99 });
+    let records = |members: &[Member]| {
+        let mut sketches = vec![table(members)];
+        if !members.is_empty() {
+            sketches.push(rib(6, &entries(members)));
+        }
+        for member in members {
+            sketches.push(change(16, 5, member.asn));
+            sketches.push(withdrawal(17, 7, member.asn));
+        }
+        octets(&sketches)
+    };
+    let (ten, others): (Vec<_>, Vec<_>) = all.iter().partition(|member| member.asn == 10);
+    book.left("as-bits-mute-10", &Ask::whole().muting(&[10]), &records(&all), &records(&others));
+    let list: Vec<u32> = others.iter().map(|member| member.asn).collect();
+    book.left("as-bits-mute-others", &Ask::whole().muting(&list), &records(&all), &records(&ten));
+    for bit in [15, 16, 23, 24, 30, 31] {
+        let kept: Vec<_> = all.iter().copied().filter(|m| m.asn != 10 ^ 1 << bit).collect();
+        let ask = Ask::whole().muting(&[10 ^ 1 << bit]);
+        book.left(format!("as-bits-mute-bit-{bit}"), &ask, &records(&all), &records(&kept));
+    }
 }
 
 /// A table of five, an entry of each, and a session of each.

@@ -33,7 +33,7 @@ impl Member {
         }
     }
 
-    fn octets(self) -> Vec<u8> {
+    pub fn octets(self) -> Vec<u8> {
         let addresses = [address(V4, self.tag), address(self.family(), self.tag)].concat();
         [vec![self.octet], addresses, self.asn_octets()].concat()
     }
@@ -76,7 +76,7 @@ pub fn rib(subtype: u16, entries: &[(u16, u8)]) -> Sketch {
     entries.iter().fold(head, |sketch, (index, tag)| entry(sketch, *index, *tag))
 }
 
-fn entry(sketch: Sketch, index: u16, tag: u8) -> Sketch {
+pub fn entry(sketch: Sketch, index: u16, tag: u8) -> Sketch {
     let attributes = attributes(tag);
     sketch
         .n("entry-index", 2, index.into())
