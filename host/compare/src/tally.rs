@@ -39,7 +39,7 @@ pub struct Tally {
     pub items: u64,
     /// Calls at places and with tables that need not belong together.
     pub stray: u64,
-    /// Records read, by the number of their fault.
+    /// Reads of one record, by the number of its fault.
     pub read: [u64; 14],
     /// Records that were read and written again, in the order of [`Writer::ALL`].
     pub back: [u64; Writer::ALL.len()],
@@ -134,7 +134,7 @@ impl fmt::Display for Tally {
         writeln!(f, "{} more dumps, the library against itself", self.itself)?;
         writeln!(f, "{} records, {} peers and entries", self.records, self.items)?;
         writeln!(f, "{} calls at any place", self.stray)?;
-        writeln!(f, "records read, by fault, from 0 on: {:?}", self.read)?;
+        writeln!(f, "reads of one record, by fault, from 0 on: {:?}", self.read)?;
         for writer in Writer::ALL {
             let (back, counts) = (self.back[writer as usize], self.written[writer as usize]);
             let fewest = self.slips[writer as usize].fewest(writer);

@@ -1,9 +1,4 @@
 //! One record written from its fields.
-//!
-//! Every `write` answers how many octets it wrote, from `out[0]` on. It refuses with the number
-//! that reading the record would give, the first in the order of its fields; a part that is too
-//! short for its field is [`Fault::FieldIncomplete`], a part or an AS number that is too long for
-//! it [`Fault::OctetsLeft`], and last comes [`Fault::Room`]. When refused, `out` is as it was.
 
 use crate::calls::writers;
 use crate::fault::Fault;
@@ -45,7 +40,13 @@ impl<'a> Session<'a> {
 }
 
 impl Fields<'_> {
-    /// Writes the record. `table` is the table in force before it, as for [`crate::read`].
+    /// Writes the record; answers how many octets it wrote, from `out[0]` on. `table` is the table
+    /// in force before it, as for [`crate::read`].
+    ///
+    /// Refused is what reading the record would refuse, by the first fault in the order of the
+    /// fields. A part too short for its field is [`Fault::FieldIncomplete`], a part too long or an
+    /// AS number too large for it [`Fault::OctetsLeft`]; a Subtype of another kind is
+    /// [`Fault::Subtype`]. Last comes [`Fault::Room`]. When refused, `out` is as it was.
     ///
     /// ```
     /// use dagsumilat::{read, records};
@@ -86,6 +87,7 @@ impl Unread<'_> {
 }
 
 impl TableDump<'_> {
+    /// Writes the record: see [`Fields::write`].
     pub fn write(&self, out: &mut [u8]) -> Result<usize, Fault> {
         let given = writers::TableDump {
             timestamp: self.timestamp.into(),
@@ -105,6 +107,7 @@ impl TableDump<'_> {
 }
 
 impl PeerTable<'_> {
+    /// Writes the record: see [`Fields::write`].
     pub fn write(&self, out: &mut [u8]) -> Result<usize, Fault> {
         let given = writers::PeerTable {
             timestamp: self.timestamp.into(),
@@ -118,6 +121,7 @@ impl PeerTable<'_> {
 }
 
 impl Rib<'_> {
+    /// Writes the record: see [`Fields::write`].
     pub fn write(&self, table: Option<u64>, out: &mut [u8]) -> Result<usize, Fault> {
         let given = writers::Rib {
             timestamp: self.timestamp.into(),
@@ -134,6 +138,7 @@ impl Rib<'_> {
 }
 
 impl RibGeneric<'_> {
+    /// Writes the record: see [`Fields::write`].
     pub fn write(&self, table: Option<u64>, out: &mut [u8]) -> Result<usize, Fault> {
         let given = writers::RibGeneric {
             timestamp: self.timestamp.into(),
@@ -188,6 +193,7 @@ impl StateChange<'_> {
 }
 
 impl Message<'_> {
+    /// Writes the record: see [`Fields::write`].
     pub fn write(&self, out: &mut [u8]) -> Result<usize, Fault> {
         let given = writers::Message {
             time: self.time.words(),
