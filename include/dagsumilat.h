@@ -161,8 +161,8 @@ void dagsumilat_read(const uint8_t *record, size_t record_len, uint64_t table, u
 
 /*
  * Seven calls that write one record each, from the fields of its kind as dagsumilat_read gives them; Length, the view name's length and
- * type 12's attribute length are worked out. Any numbers and any octets may be handed over. What was read and is written again gives
- * the octets that were read.
+ * type 12's attribute length are worked out. Any numbers and any octets may be handed over. What was read and is written again, with
+ * microseconds where the Type is 17, 33 or 49, gives the octets that were read.
  *
  * Where a call takes a time, that is three numbers: the Timestamp; whether there are microseconds, 0 or any other number; and the
  * microseconds, not looked at where there are none. With microseconds a state change or message is of type 17, else 16.
@@ -180,7 +180,7 @@ void dagsumilat_write_unread(uint64_t timestamp, uint64_t has_microseconds, uint
 
 /* Type 12. Prefix and address have 4 octets with subtype 1, 16 with subtype 2. */
 void dagsumilat_write_table_dump(uint64_t timestamp, uint64_t subtype, uint64_t view, uint64_t sequence, const uint8_t *prefix,
-                                 size_t prefix_len, uint64_t prefix_length, uint64_t status, uint64_t originated,
+                                 size_t prefix_len, uint64_t prefix_bits, uint64_t status, uint64_t originated,
                                  const uint8_t *peer_address, size_t peer_address_len, uint64_t peer_as, const uint8_t *attributes,
                                  size_t attributes_len, uint8_t *out, size_t out_len, uint64_t answer[2]);
 
@@ -189,13 +189,13 @@ void dagsumilat_write_peer_table(uint64_t timestamp, uint64_t collector_id, cons
                                  const uint8_t *peers, size_t peers_len, uint8_t *out, size_t out_len, uint64_t answer[2]);
 
 /* Type 13, subtypes 2 to 5. The prefix has as many octets as its bits need; the entries are handed over laid out, with their count. */
-void dagsumilat_write_rib(uint64_t timestamp, uint64_t subtype, uint64_t table, uint64_t sequence, uint64_t prefix_length,
+void dagsumilat_write_rib(uint64_t timestamp, uint64_t subtype, uint64_t table, uint64_t sequence, uint64_t prefix_bits,
                           const uint8_t *prefix, size_t prefix_len, uint64_t count, const uint8_t *entries, size_t entries_len,
                           uint8_t *out, size_t out_len, uint64_t answer[2]);
 
 /* Type 13, subtype 6. */
 void dagsumilat_write_rib_generic(uint64_t timestamp, uint64_t table, uint64_t sequence, uint64_t family, uint64_t safi,
-                                  uint64_t prefix_length, const uint8_t *prefix, size_t prefix_len, uint64_t count,
+                                  uint64_t prefix_bits, const uint8_t *prefix, size_t prefix_len, uint64_t count,
                                   const uint8_t *entries, size_t entries_len, uint8_t *out, size_t out_len, uint64_t answer[2]);
 
 /* Types 16 and 17, subtypes 0 and 5. Addresses have 4 octets with family 1, 16 with family 2. */
