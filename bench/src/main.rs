@@ -1,5 +1,6 @@
 //! Times the proved check and cut of a dump against the same in plain Rust, and counts instructions;
-//! or, given a folder, writes the dumps and their lists there, for other programs to be timed with.
+//! or only compares their answers; or, given a folder, writes the dumps and their lists there, for other
+//! programs to be timed with.
 
 mod checking;
 mod counting;
@@ -18,7 +19,7 @@ use made::Made;
 use std::path::Path;
 use std::{env, fs, io};
 
-const USAGE: &str = "usage: bench [MEGABYTES [FOLDER]]";
+const USAGE: &str = "usage: bench [compare | MEGABYTES [FOLDER]]";
 const MEGABYTE: usize = 1_000_000;
 
 /// A dump that stays in the cache shows what the code takes, a large one what memory adds.
@@ -62,9 +63,13 @@ fn write_all(folder: &Path, size: usize) -> io::Result<()> {
     write(folder, "table-20000", &made::table(size, 20_000))
 }
 
-fn compare_and_measure(size: usize) {
+fn compare() {
     checking::compare();
     cutting::compare();
+}
+
+fn compare_and_measure(size: usize) {
+    compare();
     counting::print();
     measure(SMALL);
     if size != SMALL {
@@ -81,6 +86,7 @@ fn main() {
     match words.iter().map(String::as_str).collect::<Vec<_>>()[..] {
         [] => compare_and_measure(LARGE),
         [counting::WORD, input, call] => counting::run(input, call),
+        ["compare"] => compare(),
         [megabytes] => compare_and_measure(size(megabytes)),
         [megabytes, folder] => {
             write_all(Path::new(folder), size(megabytes)).expect("the folder takes no files");
