@@ -1,15 +1,16 @@
 /*
  * Dagsumilat: MRT dumps (RFC 6396) of route collectors, checked, gone through record by record, and cut to a time window without
- * the peers on a list. Proved in Rattle; docs/PROMISES.md leads to what is proved.
+ * the peers on a list; single records read and written. Proved in Rattle; docs/PROMISES.md leads to what is proved.
  *
  * Link with libdagsumilat.a (`rt staticlib dagsumilat` writes it to target/staticlib).
  *
  * For every call:
  * - Any octets may be handed over. No call fails in any way but by the number in answer[0], allocates, keeps a pointer, or writes
- *   anywhere but to `answer` and, if a cut is not refused, to the octets of `out` that it reports.
+ *   anywhere but to `answer` and, if it is not refused, to the octets of `out` that it reports.
  * - An array must have the stated number of elements. A pointer whose length is 0 is not followed, but must not be NULL.
  * - `out` and `answer` must not overlap with each other or with what is read.
- * - Offsets count from the dump's first octet. Times are in microseconds since 1970, UTC.
+ * - Offsets count from the dump's first octet, or the record's where a call takes one record. Times are in microseconds since 1970,
+ *   UTC; a Timestamp is in seconds.
  */
 #ifndef DAGSUMILAT_H
 #define DAGSUMILAT_H
@@ -110,6 +111,104 @@ void dagsumilat_peer(const uint8_t *dump, size_t dump_len, size_t at, uint64_t a
  * On a fault [2] to [5] are 0.
  */
 void dagsumilat_entry(const uint8_t *dump, size_t dump_len, size_t at, uint64_t answer[6]);
+
+/* What answer[2] of dagsumilat_read says. */
+enum dagsumilat_kind {
+    DAGSUMILAT_NO_RECORD = 0,    /* no octets, or a fault */
+    DAGSUMILAT_UNREAD = 1,       /* types 11, 32, 33, 48 and 49: carried, not read */
+    DAGSUMILAT_TABLE_DUMP = 2,   /* type 12 */
+    DAGSUMILAT_PEER_TABLE = 3,   /* type 13, subtype 1 */
+    DAGSUMILAT_RIB = 4,          /* type 13, subtypes 2 to 5 */
+    DAGSUMILAT_RIB_GENERIC = 5,  /* type 13, subtype 6 */
+    DAGSUMILAT_CHANGE = 6,       /* types 16 and 17, subtypes 0 and 5 */
+    DAGSUMILAT_MESSAGE = 7       /* types 16 and 17, subtypes 1, 4, 6 and 7 */
+};
+
+/*
+ * Reads the record that `record` starts with: all its fields. Octets behind it are not looked at. `table` is the table in force before
+ * it: its number of peers, or DAGSUMILAT_NONE; it matters for RIB records only.
+ *
+ * A part is two words: where it lies, counted from the record's header, and its size. An empty part has the offset where it would lie.
+ * All words that a kind does not have are 0; on a fault, and where there are no octets, all but answer[0].
+ *
+ * answer[0]   0, or the record's fault, 1 to 13
+ * answer[1]   where the record ends, 12 more than Length
+ * answer[2]   kind
+ * answer[3]   Timestamp
+ * answer[4]   Type
+ * answer[5]   Subtype
+ * answer[6]   Length
+ * answer[7]   microseconds; only types 17, 33 and 49 have them
+ *
+ *             UNREAD     TABLE_DUMP     PEER_TABLE    RIB             RIB_GENERIC     CHANGE         MESSAGE
+ * answer[8]   contents   view           collector ID  sequence        sequence        peer AS        peer AS
+ * answer[9]    .. size   sequence       view name     prefix length   prefix length   local AS       local AS
+ * answer[10]             prefix          .. size      prefix          prefix          interface      interface
+ * answer[11]              .. size       peer count     .. size         .. size        family         family
+ * answer[12]             prefix length  peers         entry count     entry count     peer address   peer address
+ * answer[13]             status          .. size      entries         entries          .. size        .. size
+ * answer[14]             originated                    .. size         .. size        local address  local address
+ * answer[15]             peer address                                 family           .. size        .. size
+ * answer[16]              .. size                                     SAFI            old state      BGP message
+ * answer[17]             peer AS                                                      new state       .. size
+ * answer[18]             attributes                                                                  its type octet
+ * answer[19]              .. size
+ *
+ * A prefix length is in bits. Peers and entries are gone through by dagsumilat_peer and dagsumilat_entry. A BGP message starts with
+ * its marker.
+ */
+void dagsumilat_read(const uint8_t *record, size_t record_len, uint64_t table, uint64_t answer[20]);
+
+/*
+ * Seven calls that write one record each, from the fields of its kind as dagsumilat_read gives them; Length, the view name's length and
+ * type 12's attribute length are worked out. Any numbers and any octets may be handed over. What was read and is written again, with
+ * microseconds where the Type is 17, 33 or 49, gives the octets that were read.
+ *
+ * Where a call takes a time, that is three numbers: the Timestamp; whether there are microseconds, 0 or any other number; and the
+ * microseconds, not looked at where there are none. With microseconds a state change or message is of type 17, else 16.
+ * Where it takes a table, that is the one in force before the record, as for dagsumilat_read.
+ *
+ * answer[0]  0, or the number that reading such a record would give: the first in the order of its fields. In a field's turn a part
+ *            too short for it gives 5, a part too long or a number too large for it 6. A Subtype of another kind is 4, to
+ *            dagsumilat_write_unread a Type of another kind 3. Last come 6 for a message past 32 bits of Length, and 15.
+ * answer[1]  how many octets were written, from out[0] on; 0 and `out` as it was on a refusal
+ */
+
+/* Types 11, 32 and 48, and with microseconds 33 and 49. */
+void dagsumilat_write_unread(uint64_t timestamp, uint64_t has_microseconds, uint64_t microseconds, uint64_t type, uint64_t subtype,
+                             const uint8_t *contents, size_t contents_len, uint8_t *out, size_t out_len, uint64_t answer[2]);
+
+/* Type 12. Prefix and address have 4 octets with subtype 1, 16 with subtype 2. */
+void dagsumilat_write_table_dump(uint64_t timestamp, uint64_t subtype, uint64_t view, uint64_t sequence, const uint8_t *prefix,
+                                 size_t prefix_len, uint64_t prefix_bits, uint64_t status, uint64_t originated,
+                                 const uint8_t *peer_address, size_t peer_address_len, uint64_t peer_as, const uint8_t *attributes,
+                                 size_t attributes_len, uint8_t *out, size_t out_len, uint64_t answer[2]);
+
+/* Type 13, subtype 1. The peers are handed over laid out, with their count. */
+void dagsumilat_write_peer_table(uint64_t timestamp, uint64_t collector_id, const uint8_t *name, size_t name_len, uint64_t count,
+                                 const uint8_t *peers, size_t peers_len, uint8_t *out, size_t out_len, uint64_t answer[2]);
+
+/* Type 13, subtypes 2 to 5. The prefix has as many octets as its bits need; the entries are handed over laid out, with their count. */
+void dagsumilat_write_rib(uint64_t timestamp, uint64_t subtype, uint64_t table, uint64_t sequence, uint64_t prefix_bits,
+                          const uint8_t *prefix, size_t prefix_len, uint64_t count, const uint8_t *entries, size_t entries_len,
+                          uint8_t *out, size_t out_len, uint64_t answer[2]);
+
+/* Type 13, subtype 6. */
+void dagsumilat_write_rib_generic(uint64_t timestamp, uint64_t table, uint64_t sequence, uint64_t family, uint64_t safi,
+                                  uint64_t prefix_bits, const uint8_t *prefix, size_t prefix_len, uint64_t count,
+                                  const uint8_t *entries, size_t entries_len, uint8_t *out, size_t out_len, uint64_t answer[2]);
+
+/* Types 16 and 17, subtypes 0 and 5. Addresses have 4 octets with family 1, 16 with family 2. */
+void dagsumilat_write_change(uint64_t timestamp, uint64_t has_microseconds, uint64_t microseconds, uint64_t subtype, uint64_t peer_as,
+                             uint64_t local_as, uint64_t interface, uint64_t family, const uint8_t *peer_address,
+                             size_t peer_address_len, const uint8_t *local_address, size_t local_address_len, uint64_t old_state,
+                             uint64_t new_state, uint8_t *out, size_t out_len, uint64_t answer[2]);
+
+/* Types 16 and 17, subtypes 1, 4, 6 and 7. The message is handed over whole, from its marker on. */
+void dagsumilat_write_message(uint64_t timestamp, uint64_t has_microseconds, uint64_t microseconds, uint64_t subtype, uint64_t peer_as,
+                              uint64_t local_as, uint64_t interface, uint64_t family, const uint8_t *peer_address,
+                              size_t peer_address_len, const uint8_t *local_address, size_t local_address_len, const uint8_t *message,
+                              size_t message_len, uint8_t *out, size_t out_len, uint64_t answer[2]);
 
 #ifdef __cplusplus
 }

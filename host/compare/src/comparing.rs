@@ -1,17 +1,20 @@
 //! One dump, read by both programs in every way there is.
 
 use crate::cutting;
-use crate::desk::{Desk, Spots, Told};
+use crate::desk::{Desk, Spots};
+use crate::desks::Desks;
 use crate::expected;
 use crate::itself;
-use crate::lending::Spot;
 use crate::making;
+use crate::reading;
 use crate::tally::Tally;
+use crate::telling::{same, Told};
+use crate::writing;
 use dagsumilat::calls::NONE;
 use second::dump::{Dump, Located};
 use second::record::Body;
 use second::vectors::rng::Rng;
-use std::fmt::{self, Debug};
+use std::fmt;
 
 /// Dumps with a damaged field that the library alone reads, for each that the second program reads
 /// too: it takes far less time for them.
@@ -32,33 +35,38 @@ impl fmt::Display for Difference {
     }
 }
 
-/// Makes a dump from a seed and compares all calls with it.
-pub fn compare_seed(seed: u64, desk: &mut Desk, tally: &mut Tally) -> Result<(), Difference> {
+/// Makes a dump from a seed and compares all calls with it; then the writers with fields of their
+/// own.
+pub fn compare_seed(seed: u64, desks: &mut Desks, tally: &mut Tally) -> Result<(), Difference> {
     let mut rng = Rng::seeded(seed);
     let made = making::any(&mut rng);
     let differs = |dump: &[u8], told| Difference { seed, dump: dump.to_vec(), told };
     tally.kind(made.kind);
-    let fault = compare_dump(&made.dump, &mut rng, desk, tally)
+    let fault = compare_dump(&made.dump, &mut rng, desks, tally)
         .map_err(|told| differs(&made.dump, told))?;
+    writing::compare(&mut Rng::seeded(!seed), &mut desks.record, tally)
+        .map_err(|told| differs(&[], told))?;
     let Some(field) = made.field else {
         return Ok(());
     };
     tally.field(field, fault != 0);
     for dump in making::with_fields_damaged(ALONE, &mut rng) {
-        desk.lay(&dump, spots(&mut rng));
-        itself::compare(desk).map_err(|told| differs(&dump, told))?;
+        desks.dump.lay(&dump, Spots::draw(&mut rng));
+        itself::compare(&mut desks.dump).map_err(|told| differs(&dump, told))?;
         tally.itself += 1;
     }
     Ok(())
 }
 
 /// Compares all calls with this dump; the number of its fault.
-pub fn compare_dump(dump: &[u8], rng: &mut Rng, desk: &mut Desk, tally: &mut Tally) -> Told<u8> {
+pub fn compare_dump(dump: &[u8], rng: &mut Rng, desks: &mut Desks, tally: &mut Tally) -> Told<u8> {
     let read = Dump::read(dump);
     let fault = read.end.number();
     tally.dumps += 1;
     tally.faults[usize::from(fault)] += 1;
-    desk.lay(dump, spots(rng));
+    desks.dump.lay(dump, Spots::draw(rng));
+    reading::compare(dump, &read, rng, desks, tally)?;
+    let desk = &mut desks.dump;
     same(|| "check".into(), desk.check()?, expected::check(&read))?;
     itself::compare(desk)?;
     walk(&read, desk, tally)?;
@@ -68,24 +76,6 @@ pub fn compare_dump(dump: &[u8], rng: &mut Rng, desk: &mut Desk, tally: &mut Tal
     desk.is_unchanged()?;
     cutting::compare(dump, &read, rng, desk, tally)?;
     Ok(fault)
-}
-
-/// Nothing, or a call and both answers to it.
-pub fn same<T: PartialEq + Debug>(call: impl FnOnce() -> String, proved: T, second: T) -> Told<()> {
-    if proved == second {
-        return Ok(());
-    }
-    Err(format!("{}\nproved: {proved:?}\nsecond: {second:?}", call()))
-}
-
-/// Mostly right before a wall, since reading past the end is the likelier mistake.
-pub fn spots(rng: &mut Rng) -> Spots {
-    let mut spot = || match rng.below(8) {
-        0 => Spot::First,
-        1..=3 => Spot::Amid(rng.below(16)),
-        _ => Spot::Last,
-    };
-    Spots { dump: spot(), mutes: spot(), out: spot(), answer: spot() }
 }
 
 /// From record to record, as the header says that a dump is gone through.
@@ -134,7 +124,8 @@ fn stray(dump: &[u8], read: &Dump, rng: &mut Rng, desk: &mut Desk, tally: &mut T
         0 => rng.word(),
         _ => *rng.pick(&[NONE, NONE - 1, 0, 1, 2, 5, 255, 65_535, 65_536]),
     };
-    tally.stray += 3;
+    tally.stray += 4;
+    reading::compare_at(dump, at, table, desk, tally)?;
     let call = |name: &str| format!("{name} at={at} table={table}");
     same(|| call("record"), desk.record(at, table)?, expected::record_at(dump, at, table))?;
     same(|| call("peer"), desk.peer(at)?, expected::peer_at(dump, at))?;

@@ -1,10 +1,10 @@
 //! Cuts by both programs, and the laws of cutting twice and of dumps laid end to end.
 
-use crate::comparing::{same, spots};
-use crate::desk::{Ask, Desk, Told};
+use crate::desk::{Ask, Desk, Spots};
 use crate::itself;
 use crate::making::{ask, good, Known};
 use crate::tally::Tally;
+use crate::telling::{same, Told};
 use second::cut;
 use second::dump::Dump;
 use second::vectors::rng::Rng;
@@ -69,7 +69,7 @@ pub fn compare_room(
 
 /// The proved cut of an accepted dump, laid anew and read once more.
 fn left(dump: &[u8], ask: &Ask, rng: &mut Rng, desk: &mut Desk) -> Told<Vec<u8>> {
-    desk.lay(dump, spots(rng));
+    desk.lay(dump, Spots::draw(rng));
     itself::compare(desk)?;
     let answer = desk.cut(ask, dump.len())?;
     same(|| call(ask, dump.len()), answer[..2].to_vec(), vec![0, 0])?;

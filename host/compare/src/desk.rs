@@ -1,14 +1,13 @@
 //! The proved library's calls on lent memory. After each call it is asked whether the fences
 //! stand and whether what was only to be read is as it was.
 
-use crate::lending::{Loan, Spot};
+use crate::lending::{words, Loan, Spot};
+use crate::telling::Told;
 use dagsumilat::calls;
+use second::vectors::rng::Rng;
 
 /// A longer dump is not held against its copy after every call, but by [`Desk::is_unchanged`].
 const SHORT: usize = 4096;
-
-/// What went wrong, in words.
-pub type Told<T> = Result<T, String>;
 
 /// A window and a list.
 #[derive(Clone, Debug, PartialEq, Eq)]
@@ -43,6 +42,13 @@ impl Default for Spots {
     }
 }
 
+impl Spots {
+    pub fn draw(rng: &mut Rng) -> Spots {
+        let mut spot = || Spot::draw(rng);
+        Spots { dump: spot(), mutes: spot(), out: spot(), answer: spot() }
+    }
+}
+
 impl Desk {
     /// The dump of the calls to come.
     pub fn lay(&mut self, dump: &[u8], spots: Spots) {
@@ -66,6 +72,13 @@ impl Desk {
 
     pub fn entry(&mut self, at: usize) -> Told<[u64; 6]> {
         self.call("entry", |dump, answer| calls::entry(dump, at, answer))
+    }
+
+    /// The record that starts at `at`, in all the octets from there on; none past the end.
+    pub fn read(&mut self, at: usize, table: u64) -> Told<[u64; 20]> {
+        self.call("read", |dump, answer| {
+            calls::read(dump.get(at..).unwrap_or_default(), table, answer)
+        })
     }
 
     /// The answer; what was written is [`Desk::written`].
@@ -128,11 +141,6 @@ impl Desk {
         }
         Ok(())
     }
-}
-
-/// The words lent for an answer.
-fn words<const N: usize>(lent: &mut [u64]) -> &mut [u64; N] {
-    lent.try_into().expect("an answer lent with another size")
 }
 
 fn written_size(answer: [u64; 3], room: usize) -> Told<usize> {

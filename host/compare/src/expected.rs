@@ -115,14 +115,18 @@ fn entry_words(entry: &Entry, at: usize) -> [u64; 6] {
     ]
 }
 
+/// The table that a call is told.
+pub fn in_force(table: u64) -> Option<TableInForce> {
+    (table != NONE).then_some(TableInForce { peers: table as usize })
+}
+
 /// Any place of any dump, and any table.
 pub fn record_at(dump: &[u8], at: usize, table: u64) -> [u64; 10] {
     let octets = rest(dump, at);
     if octets.is_empty() {
         return no_record(0, at, table);
     }
-    let in_force = (table != NONE).then_some(TableInForce { peers: table as usize });
-    match Record::read(&mut Reader::over(octets), in_force) {
+    match Record::read(&mut Reader::over(octets), in_force(table)) {
         Ok(good) => record(&good, at, table),
         Err(fault) => no_record(fault.number().into(), at, table),
     }

@@ -1,7 +1,8 @@
 //! The library against itself. The check looks at a record in a fast way, and asks the exact reader
 //! only where it is not sure of it; to go from record to record is to ask that reader each time.
 
-use crate::desk::{Desk, Told};
+use crate::desk::Desk;
+use crate::telling::Told;
 use dagsumilat::calls::NONE;
 
 /// Fault, place and number of records of the laid dump, found in both ways.

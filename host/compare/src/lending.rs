@@ -1,6 +1,7 @@
 //! Numbers to be lent, with known numbers before and behind them that a call must leave alone.
 
 use crate::walls::{Number, Walled};
+use second::vectors::rng::Rng;
 
 /// How many numbers on each side are known.
 const FENCE: usize = 64;
@@ -17,6 +18,17 @@ pub enum Spot {
     Last,
     /// Between two fences, this far from where it could begin; odd ones are not aligned.
     Amid(usize),
+}
+
+impl Spot {
+    /// Mostly right before a wall, since reading past the end is the likelier mistake.
+    pub fn draw(rng: &mut Rng) -> Spot {
+        match rng.below(8) {
+            0 => Spot::First,
+            1..=3 => Spot::Amid(rng.below(16)),
+            _ => Spot::Last,
+        }
+    }
 }
 
 /// A number that tells its place, so that a shifted copy of a fence is noticed too.
@@ -111,6 +123,11 @@ impl<T: Item> Default for Loan<T> {
     fn default() -> Loan<T> {
         Loan::new()
     }
+}
+
+/// The words lent for an answer.
+pub fn words<const N: usize>(lent: &mut [u64]) -> &mut [u64; N] {
+    lent.try_into().expect("an answer lent with another size")
 }
 
 #[cfg(test)]

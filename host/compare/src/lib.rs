@@ -6,11 +6,16 @@
 pub mod comparing;
 pub mod cutting;
 pub mod desk;
+pub mod desks;
 pub mod expected;
+pub mod expected_fields;
 pub mod itself;
 pub mod lending;
 pub mod making;
+pub mod reading;
 pub mod running;
 pub mod tally;
+pub mod telling;
 #[allow(unsafe_code)]
 mod walls;
+pub mod writing;

@@ -1,7 +1,7 @@
 //! Many dumps, on all processors.
 
 use crate::comparing::{compare_seed, Difference};
-use crate::desk::Desk;
+use crate::desks::Desks;
 use crate::tally::Tally;
 use std::num::NonZero;
 use std::sync::atomic::{AtomicBool, AtomicU64, Ordering};
@@ -11,13 +11,13 @@ use std::thread::{self, available_parallelism};
 pub fn compare_seeds(count: u64, seed: u64) -> Result<Tally, Difference> {
     let (next, stop) = (AtomicU64::new(0), AtomicBool::new(false));
     let work = || {
-        let (mut desk, mut tally) = (Desk::default(), Tally::default());
+        let (mut desks, mut tally) = (Desks::default(), Tally::default());
         while !stop.load(Ordering::Relaxed) {
             let number = next.fetch_add(1, Ordering::Relaxed);
             if number >= count {
                 break;
             }
-            compare_seed(seed.wrapping_add(number), &mut desk, &mut tally)
+            compare_seed(seed.wrapping_add(number), &mut desks, &mut tally)
                 .inspect_err(|_| stop.store(true, Ordering::Relaxed))?;
         }
         Ok(tally)

@@ -1,7 +1,27 @@
 //! What was compared, counted.
 
-use crate::making::{Field, Kind};
+use crate::making::{Field, Kind, Writer};
 use std::fmt;
+
+/// How often each turn of a writer slipped together with each other one.
+#[derive(Clone, Copy, Debug, Default, PartialEq, Eq)]
+pub struct Pairs([[u64; Writer::MOST_TURNS]; Writer::MOST_TURNS]);
+
+impl Pairs {
+    pub fn count(&mut self, slipped: &[bool; Writer::MOST_TURNS]) {
+        for (one, with) in self.0.iter_mut().enumerate() {
+            for (other, count) in with.iter_mut().enumerate() {
+                *count += u64::from(slipped[one] && slipped[other]);
+            }
+        }
+    }
+
+    /// For the two that it was seldomest.
+    pub fn fewest(&self, writer: Writer) -> u64 {
+        let turns = writer.turns();
+        self.0[..turns].iter().flat_map(|with| &with[..turns]).copied().min().unwrap_or(0)
+    }
+}
 
 #[derive(Clone, Debug, PartialEq, Eq)]
 pub struct Tally {
@@ -19,6 +39,14 @@ pub struct Tally {
     pub items: u64,
     /// Calls at places and with tables that need not belong together.
     pub stray: u64,
+    /// Reads of one record, by the number of its fault.
+    pub read: [u64; 14],
+    /// Records that were read and written again, in the order of [`Writer::ALL`].
+    pub back: [u64; Writer::ALL.len()],
+    /// Made-up calls of each writer, by their answer.
+    pub written: [[u64; 16]; Writer::ALL.len()],
+    /// Which of each writer's fields were at fault together.
+    pub slips: [Pairs; Writer::ALL.len()],
     /// Cuts by their answer.
     pub cuts: [u64; 16],
     /// Cuts that leave something, but not the dump as it was.
@@ -40,6 +68,10 @@ impl Default for Tally {
             records: 0,
             items: 0,
             stray: 0,
+            read: [0; 14],
+            back: [0; Writer::ALL.len()],
+            written: [[0; 16]; Writer::ALL.len()],
+            slips: Default::default(),
             cuts: [0; 16],
             changed: 0,
             twice: 0,
@@ -69,7 +101,13 @@ impl Tally {
         }
         all(&mut self.kinds, &other.kinds);
         all(&mut self.faults, &other.faults);
+        all(&mut self.read, &other.read);
+        all(&mut self.back, &other.back);
         all(&mut self.cuts, &other.cuts);
+        self.written.iter_mut().zip(&other.written).for_each(|(to, from)| all(to, from));
+        for (to, from) in self.slips.iter_mut().zip(&other.slips) {
+            to.0.iter_mut().zip(&from.0).for_each(|(to, from)| all(to, from));
+        }
         self.fields.iter_mut().zip(&other.fields).for_each(|(to, from)| all(to, from));
         self.itself += other.itself;
         self.dumps += other.dumps;
@@ -96,6 +134,13 @@ impl fmt::Display for Tally {
         writeln!(f, "{} more dumps, the library against itself", self.itself)?;
         writeln!(f, "{} records, {} peers and entries", self.records, self.items)?;
         writeln!(f, "{} calls at any place", self.stray)?;
+        writeln!(f, "reads of one record, by fault, from 0 on: {:?}", self.read)?;
+        for writer in Writer::ALL {
+            let (back, counts) = (self.back[writer as usize], self.written[writer as usize]);
+            let fewest = self.slips[writer as usize].fewest(writer);
+            writeln!(f, "  {writer:?}: {back} written again; by answer, from 0 on: {counts:?}")?;
+            writeln!(f, "    any two fields at fault together: {fewest} times or more")?;
+        }
         writeln!(f, "cuts by answer, from 0 on: {:?}", self.cuts)?;
         writeln!(f, "{} cuts leave something else than all or nothing", self.changed)?;
         write!(f, "{} cuts of cuts, {} cuts of two dumps end to end", self.twice, self.joined)

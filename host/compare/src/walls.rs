@@ -20,7 +20,8 @@ extern "C" {
 
 const NOTHING: c_int = 0;
 const READ_AND_WRITE: c_int = 3;
-const PRIVATE_ANONYMOUS: c_int = 0x22;
+/// Private and anonymous, and no memory is set aside for pages that nobody touches.
+const PAGES: c_int = 0x4022;
 
 /// A multiple of every page size in use.
 const WALL: usize = 65_536;
@@ -48,7 +49,7 @@ impl<T: Number> Walled<T> {
         let all = octets + 2 * WALL;
         // SAFETY: a new mapping, all of it walls; then its middle is opened.
         let start = unsafe {
-            let mapped = mmap(ptr::null_mut(), all, NOTHING, PRIVATE_ANONYMOUS, -1, 0);
+            let mapped = mmap(ptr::null_mut(), all, NOTHING, PAGES, -1, 0);
             assert!(mapped as isize != -1, "no memory for {octets} octets");
             let start = mapped.cast::<u8>().add(WALL);
             assert_eq!(mprotect(start.cast(), octets, READ_AND_WRITE), 0, "no open pages");

@@ -2,12 +2,15 @@
 
 use compare::comparing::compare_dump;
 use compare::cutting::compare_room;
-use compare::desk::{Ask, Desk, Spots};
+use compare::desk::{Ask, Spots};
+use compare::desks::Desks;
+use compare::making::Writer;
 use compare::running::compare_seeds;
 use compare::tally::Tally;
-use second::cut_cases::Book;
+use compare::writing::{self, Flag};
 use second::vectors::rng::Rng;
 use second::vectors::Suite;
+use second::{cut_cases, write_cases};
 use std::env;
 
 /// How many dumps are made, if COMPARE_DUMPS does not say it. With fewer than some 4,000 not every
@@ -45,7 +48,23 @@ fn is_telling(tally: &Tally) {
         accepted * 2 > refused && refused * 2 > accepted,
         "mostly one answer to damaged fields:\n{tally}"
     );
+    assert!(!tally.read.contains(&0), "a fault that no record read has:\n{tally}");
+    assert!(!tally.back.contains(&0), "a kind of record never written again:\n{tally}");
+    for writer in Writer::ALL {
+        answers_are_met(writer, tally);
+        let fewest = tally.slips[writer as usize].fewest(writer);
+        assert!(fewest * 1000 > tally.dumps, "{writer:?}, two fields rarely at fault:\n{tally}");
+    }
     assert!(tally.records > tally.dumps && tally.items > tally.dumps, "few records:\n{tally}");
+}
+
+/// Every number that the writer can answer, and no other.
+fn answers_are_met(writer: Writer, tally: &Tally) {
+    for (answer, count) in tally.written[writer as usize].iter().enumerate() {
+        let is_met = *count != 0;
+        let is_told = writer.answers().iter().any(|one| usize::from(*one) == answer);
+        assert_eq!(is_met, is_told, "{writer:?} answers {answer} {count} times:\n{tally}");
+    }
 }
 
 #[test]
@@ -59,9 +78,9 @@ fn chance_shows_no_difference() {
 /// The dumps of the second program's suite, each made for one check.
 #[test]
 fn the_suite_shows_no_difference() {
-    let (mut desk, mut tally, mut rng) = (Desk::default(), Tally::default(), Rng::seeded(1));
+    let (mut desks, mut tally, mut rng) = (Desks::default(), Tally::default(), Rng::seeded(1));
     for (name, vector) in Suite::generate().iter() {
-        compare_dump(&vector.octets, &mut rng, &mut desk, &mut tally)
+        compare_dump(&vector.octets, &mut rng, &mut desks, &mut tally)
             .unwrap_or_else(|told| panic!("{name}: {told}"));
     }
     assert!(!tally.faults.contains(&0), "{tally}");
@@ -70,13 +89,28 @@ fn the_suite_shows_no_difference() {
 /// The second program's book of cuts, and its dumps with other windows and lists too.
 #[test]
 fn the_book_shows_no_difference() {
-    let (mut desk, mut tally, mut rng) = (Desk::default(), Tally::default(), Rng::seeded(2));
-    for (name, case) in Book::generate().iter() {
+    let (mut desks, mut tally, mut rng) = (Desks::default(), Tally::default(), Rng::seeded(2));
+    for (name, case) in cut_cases::Book::generate().iter() {
         let (from, to, list) = (case.ask.start, case.ask.end, case.ask.list.clone());
-        desk.lay(&case.dump, Spots::default());
-        compare_room(&case.dump, &Ask { from, to, list }, case.room, &mut desk, &mut tally)
-            .and_then(|_| compare_dump(&case.dump, &mut rng, &mut desk, &mut tally))
+        desks.dump.lay(&case.dump, Spots::default());
+        compare_room(&case.dump, &Ask { from, to, list }, case.room, &mut desks.dump, &mut tally)
+            .and_then(|_| compare_dump(&case.dump, &mut rng, &mut desks, &mut tally))
             .unwrap_or_else(|told| panic!("{name}: {told}"));
     }
     assert!(tally.changed > 0 && tally.cuts[14] > 0 && tally.cuts[15] > 0, "{tally}");
+}
+
+/// The second program's book of records to be written, each made for one field or for two.
+#[test]
+fn the_book_of_writers_shows_no_difference() {
+    let (mut desks, mut tally, mut rng) = (Desks::default(), Tally::default(), Rng::seeded(3));
+    for (name, case) in write_cases::Book::generate().iter() {
+        let spots = writing::Spots::draw(&mut rng);
+        let (desk, tally) = (&mut desks.record, &mut tally);
+        writing::compare_one(&case.given, Flag::USUAL, case.room, &spots, desk, tally)
+            .unwrap_or_else(|told| panic!("{name}: {told}"));
+    }
+    for writer in Writer::ALL {
+        answers_are_met(writer, &tally);
+    }
 }

@@ -57,6 +57,11 @@ impl Fault {
         Fault::ALL.get(index).copied()
     }
 
+    /// Reads the first number of an answer: 0 refuses nothing.
+    pub(crate) fn of_answer(number: u64) -> Option<Fault> {
+        (number != 0).then(|| Fault::of_number(number).expect("the calls answer 0 to 15"))
+    }
+
     pub fn number(self) -> u8 {
         self as u8
     }
@@ -113,6 +118,8 @@ impl fmt::Display for Fault {
     }
 }
 
+impl Error for Fault {}
+
 /// A fault, and the offset of the record that has it (0 if it is not a record's).
 #[derive(Clone, Copy, Debug, PartialEq, Eq, Hash)]
 pub struct Refusal {
@@ -123,11 +130,7 @@ pub struct Refusal {
 impl Refusal {
     /// Reads the first two numbers of an answer: 0 refuses nothing.
     pub(crate) fn of_answer(number: u64, place: u64) -> Option<Refusal> {
-        if number == 0 {
-            return None;
-        }
-        let fault = Fault::of_number(number).expect("the calls answer 0 to 15");
-        Some(Refusal { fault, place: place as usize })
+        Fault::of_answer(number).map(|fault| Refusal { fault, place: place as usize })
     }
 }
 

@@ -1,5 +1,5 @@
 //! MRT dumps of route collectors (RFC 6396): checked, gone through record by record, and cut to a
-//! window of time without the peers that are to be muted.
+//! window of time without the peers that are to be muted; single records read and written.
 //!
 //! These are safe functions over a library proved in Rattle (include/dagsumilat.h). Any octets may
 //! be handed over. Offsets count from the dump's first octet; times are microseconds since 1970.
@@ -23,12 +23,19 @@
 #[doc(hidden)]
 pub mod calls;
 mod fault;
+mod fields;
 mod items;
+mod reading;
 mod record;
 mod records;
+mod writing;
 
 pub use fault::{Fault, Refusal};
+pub use fields::{
+    Fields, Message, PeerTable, Rib, RibGeneric, Session, StateChange, TableDump, Time, Unread,
+};
 pub use items::{Entries, Entry, Peer, Peers};
+pub use reading::{read, Read};
 pub use record::{Kind, Record};
 pub use records::{records, Records};
 
@@ -99,6 +106,12 @@ pub fn cut_into(
 /// nothing else; some systems do not listen.
 pub fn in_large_pages<T>(memory: &[T]) {
     calls::advise_large_pages(memory);
+}
+
+/// A table in force, as the calls take it. An index has 16 bits, so that all tables of more peers
+/// are alike.
+fn table_word(table: Option<u64>) -> u64 {
+    table.map_or(calls::NONE, |peers| peers.min(calls::NONE - 1))
 }
 
 /// The answer of a call that is lent a place for it.

@@ -1,7 +1,9 @@
 //! One record of a dump, as the calls show it.
 
 use crate::calls;
+use crate::fields::Fields;
 use crate::items::{Entries, Peers};
+use crate::reading::read;
 
 /// What a record is, by its Type and Subtype.
 #[derive(Clone, Copy, Debug, PartialEq, Eq, PartialOrd, Ord, Hash)]
@@ -73,6 +75,13 @@ impl<'a> Record<'a> {
     /// Header and message.
     pub fn octets(&self) -> &'a [u8] {
         &self.dump[self.at..self.next]
+    }
+
+    /// All its fields.
+    pub fn fields(&self) -> Fields<'a> {
+        // Only a peer table changes the table in force, and to read one needs none.
+        let found = read(self.octets(), self.table());
+        found.ok().flatten().expect("a good record is read").fields
     }
 
     /// How many peers the table in force behind this record has; none if there is no table yet.

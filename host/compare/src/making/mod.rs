@@ -4,12 +4,14 @@ mod asks;
 mod damage;
 mod field_damage;
 mod fields;
+mod given;
 mod layout;
 mod long;
 mod records;
 
 pub use asks::{ask, Known};
 pub use fields::Field;
+pub use given::{given, room, MadeGiven, Writer};
 pub use records::Maker;
 
 use second::cut_cases;

@@ -171,7 +171,7 @@ impl<'a> Maker<'a> {
         self.peers = Some(count);
     }
 
-    fn peer(&mut self) {
+    pub fn peer(&mut self) {
         let octet = self.rng.word() as u8;
         self.out.push(octet);
         self.any_octets(4 + if octet & 1 != 0 { 16 } else { 4 });
@@ -199,7 +199,7 @@ impl<'a> Maker<'a> {
         });
     }
 
-    fn entry(&mut self, peers: usize) {
+    pub fn entry(&mut self, peers: usize) {
         let index = match self.rng.below(4) {
             // More often than other fields, since so much has to be right before it.
             _ if self.slip() || self.slip() => peers + self.rng.below(3),
@@ -257,7 +257,7 @@ impl<'a> Maker<'a> {
         self.out[at..at + 2].copy_from_slice(&(size as u16).to_be_bytes());
     }
 
-    fn attribute(&mut self) {
+    pub fn attribute(&mut self) {
         let flags = self.rng.word() as u8;
         let extended = flags & 16 != 0;
         let size = match self.rng.below(2000) {
@@ -310,7 +310,7 @@ impl<'a> Maker<'a> {
 
     /// A BGP message: mostly short, now and then of the most octets there may be or one fewer. A
     /// slip is one octet less or more than it may have, or a length field that is one off.
-    fn bgp_message(&mut self) {
+    pub fn bgp_message(&mut self) {
         let size = match self.rng.below(40) {
             _ if self.slip() => *self.rng.pick(&[18, 4097]),
             0 => 4096,

@@ -1,5 +1,5 @@
 //! The calls of include/dagsumilat.h, with its words, and one of the system's. All unsafe code of
-//! this crate stands here.
+//! this crate stands here and in [`writers`].
 //!
 //! What makes each call sound: a slice's pointer is never null and has as many elements behind it
 //! as its length says; `out` and the answer are lent for writing, so that they overlap with
@@ -7,6 +7,8 @@
 //! numbers.
 //!
 //! The answer is lent, as in C, so that the comparison can put it between walls.
+
+pub mod writers;
 
 /// No table in force; no peer AS.
 pub const NONE: u64 = u64::MAX;
@@ -33,6 +35,7 @@ extern "C" {
     );
     fn dagsumilat_peer(dump: *const u8, dump_len: usize, at: usize, answer: *mut [u64; 7]);
     fn dagsumilat_entry(dump: *const u8, dump_len: usize, at: usize, answer: *mut [u64; 6]);
+    fn dagsumilat_read(record: *const u8, record_len: usize, table: u64, answer: *mut [u64; 20]);
 }
 
 pub fn check(dump: &[u8], answer: &mut [u64; 3]) {
@@ -61,6 +64,11 @@ pub fn peer(dump: &[u8], at: usize, answer: &mut [u64; 7]) {
 pub fn entry(dump: &[u8], at: usize, answer: &mut [u64; 6]) {
     // SAFETY: see the top of this file.
     unsafe { dagsumilat_entry(dump.as_ptr(), dump.len(), at, answer) }
+}
+
+pub fn read(record: &[u8], table: u64, answer: &mut [u64; 20]) {
+    // SAFETY: see the top of this file.
+    unsafe { dagsumilat_read(record.as_ptr(), record.len(), table, answer) }
 }
 
 /// See [`crate::in_large_pages`].
