@@ -14,7 +14,7 @@ ghost use Rattle.record_spec.specs.Table.{stateOf};
 ghost use Rattle.write_spec.specs.Times.{microSize};
 ghost use Rattle.write_spec.specs.Only.{onlyType, onlySub, unreads, tableDumps, peerTables, ribs, genericRibs, changes, messages};
 ghost use Rattle.write_spec.specs.Givens.{unreadGiven, tableDumpGiven, peerTableGiven, ribGiven, ribGenericGiven, changeGiven, messageGiven};
-ghost use Rattle.dagsumilat_spec.specs.WriteWords.{timeBy, Tells};
+ghost use Rattle.dagsumilat_spec.specs.WriteWords.{timeBy, Reports};
 ghost use Rattle.record_spec.specs.One.{readOne};
 ghost use Rattle.dagsumilat_spec.specs.ReadWords.{readWords};
 use cut::cut;
@@ -298,7 +298,7 @@ pub extern "C" fn dagsumilat_write_unread(
     out: &mut [u8],
     answer: &mut [u64; 2],
 )
-    ensures { λ _. ⌜ Tells (onlyType (unreads (microSize (timeBy timestamp micro microseconds))) longestMessage) noTable (unreadGiven (timeBy timestamp micro microseconds) ty subtype (now (contents .entry))) (now (out .entry)) (now (answer .entry)) (now (answer .exit)) (now (out .exit)) ⌝ }
+    ensures { λ _. ⌜ Reports (onlyType (unreads (microSize (timeBy timestamp micro microseconds))) longestMessage) noTable (unreadGiven (timeBy timestamp micro microseconds) ty subtype (now (contents .entry))) (now (out .entry)) (now (answer .entry)) (now (answer .exit)) (now (out .exit)) ⌝ }
 {
     dagsumilat_write::unread(
         timestamp,
@@ -329,7 +329,7 @@ pub extern "C" fn dagsumilat_write_table_dump(
     out: &mut [u8],
     answer: &mut [u64; 2],
 )
-    ensures { λ _. ⌜ Tells (onlySub tableDumps longestMessage) noTable (tableDumpGiven timestamp subtype view sequence (now (prefix .entry)) bits status originated (now (address .entry)) peer (now (attributes .entry))) (now (out .entry)) (now (answer .entry)) (now (answer .exit)) (now (out .exit)) ⌝ }
+    ensures { λ _. ⌜ Reports (onlySub tableDumps longestMessage) noTable (tableDumpGiven timestamp subtype view sequence (now (prefix .entry)) bits status originated (now (address .entry)) peer (now (attributes .entry))) (now (out .entry)) (now (answer .entry)) (now (answer .exit)) (now (out .exit)) ⌝ }
 {
     dagsumilat_write::table_dump(
         timestamp,
@@ -359,7 +359,7 @@ pub extern "C" fn dagsumilat_write_peer_table(
     out: &mut [u8],
     answer: &mut [u64; 2],
 )
-    ensures { λ _. ⌜ Tells (onlySub peerTables longestMessage) noTable (peerTableGiven timestamp collector (now (name .entry)) count (now (peers .entry))) (now (out .entry)) (now (answer .entry)) (now (answer .exit)) (now (out .exit)) ⌝ }
+    ensures { λ _. ⌜ Reports (onlySub peerTables longestMessage) noTable (peerTableGiven timestamp collector (now (name .entry)) count (now (peers .entry))) (now (out .entry)) (now (answer .entry)) (now (answer .exit)) (now (out .exit)) ⌝ }
 {
     dagsumilat_write::peer_table(timestamp, collector, name, count, peers, out, answer);
 }
@@ -378,7 +378,7 @@ pub extern "C" fn dagsumilat_write_rib(
     out: &mut [u8],
     answer: &mut [u64; 2],
 )
-    ensures { λ _. ⌜ Tells (onlySub ribs longestMessage) (stateOf (tableByCount table)) (ribGiven timestamp subtype sequence bits (now (prefix .entry)) count (now (entries .entry))) (now (out .entry)) (now (answer .entry)) (now (answer .exit)) (now (out .exit)) ⌝ }
+    ensures { λ _. ⌜ Reports (onlySub ribs longestMessage) (stateOf (tableByCount table)) (ribGiven timestamp subtype sequence bits (now (prefix .entry)) count (now (entries .entry))) (now (out .entry)) (now (answer .entry)) (now (answer .exit)) (now (out .exit)) ⌝ }
 {
     dagsumilat_write::rib(
         timestamp,
@@ -409,7 +409,7 @@ pub extern "C" fn dagsumilat_write_rib_generic(
     out: &mut [u8],
     answer: &mut [u64; 2],
 )
-    ensures { λ _. ⌜ Tells (onlySub genericRibs longestMessage) (stateOf (tableByCount table)) (ribGenericGiven timestamp sequence family safi bits (now (prefix .entry)) count (now (entries .entry))) (now (out .entry)) (now (answer .entry)) (now (answer .exit)) (now (out .exit)) ⌝ }
+    ensures { λ _. ⌜ Reports (onlySub genericRibs longestMessage) (stateOf (tableByCount table)) (ribGenericGiven timestamp sequence family safi bits (now (prefix .entry)) count (now (entries .entry))) (now (out .entry)) (now (answer .entry)) (now (answer .exit)) (now (out .exit)) ⌝ }
 {
     dagsumilat_write::rib_generic(
         timestamp,
@@ -444,7 +444,7 @@ pub extern "C" fn dagsumilat_write_change(
     out: &mut [u8],
     answer: &mut [u64; 2],
 )
-    ensures { λ _. ⌜ Tells (onlySub changes longestMessage) noTable (changeGiven (timeBy timestamp micro microseconds) subtype peer local interface family (now (theirs .entry)) (now (ours .entry)) old new) (now (out .entry)) (now (answer .entry)) (now (answer .exit)) (now (out .exit)) ⌝ }
+    ensures { λ _. ⌜ Reports (onlySub changes longestMessage) noTable (changeGiven (timeBy timestamp micro microseconds) subtype peer local interface family (now (theirs .entry)) (now (ours .entry)) old new) (now (out .entry)) (now (answer .entry)) (now (answer .exit)) (now (out .exit)) ⌝ }
 {
     dagsumilat_write::change(
         timestamp,
@@ -481,7 +481,7 @@ pub extern "C" fn dagsumilat_write_message(
     out: &mut [u8],
     answer: &mut [u64; 2],
 )
-    ensures { λ _. ⌜ Tells (onlySub messages longestMessage) noTable (messageGiven (timeBy timestamp micro microseconds) subtype peer local interface family (now (theirs .entry)) (now (ours .entry)) (now (message .entry))) (now (out .entry)) (now (answer .entry)) (now (answer .exit)) (now (out .exit)) ⌝ }
+    ensures { λ _. ⌜ Reports (onlySub messages longestMessage) noTable (messageGiven (timeBy timestamp micro microseconds) subtype peer local interface family (now (theirs .entry)) (now (ours .entry)) (now (message .entry))) (now (out .entry)) (now (answer .entry)) (now (answer .exit)) (now (out .exit)) ⌝ }
 {
     dagsumilat_write::message(
         timestamp,

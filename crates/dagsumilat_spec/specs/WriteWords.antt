@@ -22,5 +22,5 @@ abbrev pub writeWords : (array : List ℕ) → Written → List ℕ
 writeWords a w = words a (written.fault w ∷ written.count w ∷ [])
 
 -- what the answer array and the buffer hold after a call, where they were `array` and `out`
-abbrev pub Tells : (layout : ℕ → ℕ → Layout) (st : St) (g : Given) (out array : List ℕ) (telling holding : List ℕ) → Type 0
-Tells layout st g out array telling holding = (telling ≡ writeWords array (writerAnswer layout st g out)) × (holding ≡ writerLeaves layout st g out)
+abbrev pub Reports : (layout : ℕ → ℕ → Layout) (st : St) (g : Given) (out array : List ℕ) (telling holding : List ℕ) → Type 0
+Reports layout st g out array telling holding = (telling ≡ writeWords array (writerAnswer layout st g out)) × (holding ≡ writerLeaves layout st g out)

@@ -7,7 +7,7 @@ ghost use Rattle.write_spec.specs.Times.{microSize};
 ghost use Rattle.write_spec.specs.Only.{onlyType, onlySub, unreads, tableDumps, peerTables, ribs, genericRibs, changes, messages};
 ghost use Rattle.write_spec.specs.Givens.{unreadGiven, tableDumpGiven, peerTableGiven, ribGiven, ribGenericGiven, changeGiven, messageGiven};
 ghost use Rattle.dagsumilat_spec.specs.RecordAnswers.{tableByCount};
-ghost use Rattle.dagsumilat_spec.specs.WriteWords.{timeBy, writeWords, Tells};
+ghost use Rattle.dagsumilat_spec.specs.WriteWords.{timeBy, writeWords, Reports};
 use dagsumilat_told::table_of;
 use dagsumilat_told::time_of;
 use room_spec::Written;
@@ -46,7 +46,7 @@ pub fn unread(
     out: &mut [u8],
     answer: &mut [u64; 2],
 )
-    ensures { λ _. ⌜ Tells (onlyType (unreads (microSize (timeBy timestamp micro microseconds))) longestMessage) noTable (unreadGiven (timeBy timestamp micro microseconds) ty subtype (now (contents .entry))) (now (out .entry)) (now (answer .entry)) (now (answer .exit)) (now (out .exit)) ⌝ }
+    ensures { λ _. ⌜ Reports (onlyType (unreads (microSize (timeBy timestamp micro microseconds))) longestMessage) noTable (unreadGiven (timeBy timestamp micro microseconds) ty subtype (now (contents .entry))) (now (out .entry)) (now (answer .entry)) (now (answer .exit)) (now (out .exit)) ⌝ }
 {
     let time = time_of(timestamp, micro, microseconds);
     let w = write_unread(time, ty, subtype, contents, out);
@@ -69,7 +69,7 @@ pub fn table_dump(
     out: &mut [u8],
     answer: &mut [u64; 2],
 )
-    ensures { λ _. ⌜ Tells (onlySub tableDumps longestMessage) noTable (tableDumpGiven timestamp subtype view sequence (now (prefix .entry)) bits status originated (now (address .entry)) peer (now (attributes .entry))) (now (out .entry)) (now (answer .entry)) (now (answer .exit)) (now (out .exit)) ⌝ }
+    ensures { λ _. ⌜ Reports (onlySub tableDumps longestMessage) noTable (tableDumpGiven timestamp subtype view sequence (now (prefix .entry)) bits status originated (now (address .entry)) peer (now (attributes .entry))) (now (out .entry)) (now (answer .entry)) (now (answer .exit)) (now (out .exit)) ⌝ }
 {
     let w = write_table_dump(
         timestamp,
@@ -98,7 +98,7 @@ pub fn peer_table(
     out: &mut [u8],
     answer: &mut [u64; 2],
 )
-    ensures { λ _. ⌜ Tells (onlySub peerTables longestMessage) noTable (peerTableGiven timestamp collector (now (name .entry)) count (now (peers .entry))) (now (out .entry)) (now (answer .entry)) (now (answer .exit)) (now (out .exit)) ⌝ }
+    ensures { λ _. ⌜ Reports (onlySub peerTables longestMessage) noTable (peerTableGiven timestamp collector (now (name .entry)) count (now (peers .entry))) (now (out .entry)) (now (answer .entry)) (now (answer .exit)) (now (out .exit)) ⌝ }
 {
     let w = write_peer_table(timestamp, collector, name, count, peers, out);
     put_words(answer, w);
@@ -117,7 +117,7 @@ pub fn rib(
     out: &mut [u8],
     answer: &mut [u64; 2],
 )
-    ensures { λ _. ⌜ Tells (onlySub ribs longestMessage) (stateOf (tableByCount table)) (ribGiven timestamp subtype sequence bits (now (prefix .entry)) count (now (entries .entry))) (now (out .entry)) (now (answer .entry)) (now (answer .exit)) (now (out .exit)) ⌝ }
+    ensures { λ _. ⌜ Reports (onlySub ribs longestMessage) (stateOf (tableByCount table)) (ribGiven timestamp subtype sequence bits (now (prefix .entry)) count (now (entries .entry))) (now (out .entry)) (now (answer .entry)) (now (answer .exit)) (now (out .exit)) ⌝ }
 {
     let told = table_of(table);
     let w = write_rib(
@@ -148,12 +148,12 @@ pub fn rib_generic(
     out: &mut [u8],
     answer: &mut [u64; 2],
 )
-    ensures { λ _. ⌜ Tells (onlySub genericRibs longestMessage) (stateOf (tableByCount table)) (ribGenericGiven timestamp sequence family safi bits (now (prefix .entry)) count (now (entries .entry))) (now (out .entry)) (now (answer .entry)) (now (answer .exit)) (now (out .exit)) ⌝ }
+    ensures { λ _. ⌜ Reports (onlySub genericRibs longestMessage) (stateOf (tableByCount table)) (ribGenericGiven timestamp sequence family safi bits (now (prefix .entry)) count (now (entries .entry))) (now (out .entry)) (now (answer .entry)) (now (answer .exit)) (now (out .exit)) ⌝ }
 {
-    let told = table_of(table);
+    let in_force = table_of(table);
     let w = write_rib_generic(
         timestamp,
-        told,
+        in_force,
         sequence,
         family,
         safi,
@@ -183,7 +183,7 @@ pub fn change(
     out: &mut [u8],
     answer: &mut [u64; 2],
 )
-    ensures { λ _. ⌜ Tells (onlySub changes longestMessage) noTable (changeGiven (timeBy timestamp micro microseconds) subtype peer local interface family (now (theirs .entry)) (now (ours .entry)) old new) (now (out .entry)) (now (answer .entry)) (now (answer .exit)) (now (out .exit)) ⌝ }
+    ensures { λ _. ⌜ Reports (onlySub changes longestMessage) noTable (changeGiven (timeBy timestamp micro microseconds) subtype peer local interface family (now (theirs .entry)) (now (ours .entry)) old new) (now (out .entry)) (now (answer .entry)) (now (answer .exit)) (now (out .exit)) ⌝ }
 {
     let time = time_of(timestamp, micro, microseconds);
     let w = write_change(
@@ -218,7 +218,7 @@ pub fn message(
     out: &mut [u8],
     answer: &mut [u64; 2],
 )
-    ensures { λ _. ⌜ Tells (onlySub messages longestMessage) noTable (messageGiven (timeBy timestamp micro microseconds) subtype peer local interface family (now (theirs .entry)) (now (ours .entry)) (now (message .entry))) (now (out .entry)) (now (answer .entry)) (now (answer .exit)) (now (out .exit)) ⌝ }
+    ensures { λ _. ⌜ Reports (onlySub messages longestMessage) noTable (messageGiven (timeBy timestamp micro microseconds) subtype peer local interface family (now (theirs .entry)) (now (ours .entry)) (now (message .entry))) (now (out .entry)) (now (answer .entry)) (now (answer .exit)) (now (out .exit)) ⌝ }
 {
     let time = time_of(timestamp, micro, microseconds);
     let w = write_message(
