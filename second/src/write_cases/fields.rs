@@ -77,6 +77,21 @@ pub fn shorten(part: &mut Vec<u8>) {
     part.pop();
 }
 
+/// A slip of each field, with different numbers if there are such, so that the
+/// answer tells which was found; from which ones to try first, each gets its share.
+fn telling<'a, T>(
+    earlier: &'a Field<T>,
+    later: &'a Field<T>,
+    from: usize,
+) -> (&'a Slip<T>, &'a Slip<T>) {
+    let turned = |slips: &'a [Slip<T>]| slips.iter().cycle().skip(from).take(slips.len());
+    let pairs = || {
+        turned(&earlier.slips).flat_map(|one| turned(&later.slips).map(move |other| (one, other)))
+    };
+    let different = pairs().find(|(one, other)| one.fault != other.fault);
+    different.or_else(|| pairs().next()).expect("slips in both")
+}
+
 /// A good call of a writer, the record it makes, and its fields.
 pub struct Call<T> {
     pub name: &'static str,
@@ -151,9 +166,7 @@ impl<T: Clone + 'static> Call<T> {
                 if earlier.slips.is_empty() || later.slips.is_empty() {
                     continue;
                 }
-                // Any slips of the two fields will do; each gets its share.
-                let one = &earlier.slips[second % earlier.slips.len()];
-                let other = &later.slips[first % later.slips.len()];
+                let (one, other) = telling(earlier, later, first + second);
                 let given = self.fields_with(|fields| {
                     (other.spoil)(fields);
                     (one.spoil)(fields);
