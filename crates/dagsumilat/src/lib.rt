@@ -5,6 +5,7 @@ ghost use Rattle.record_spec.specs.Items.{peerAt};
 ghost use Rattle.walk_spec.specs.Walked.{walked};
 ghost use Rattle.cut_spec.specs.Answer.{cutAnswer, cutLeaves};
 ghost use Rattle.dagsumilat_spec.specs.Answers as words;
+ghost use Rattle.report_spec.specs.Answer.{reportAnswer, reportLeaves};
 ghost use Rattle.look_spec.specs.Field.{typeOf, subtypeOf, itemsAt, countOf, Known, Is, Shows, Counted};
 ghost use Rattle.look_spec.specs.Sort as sort;
 ghost use Rattle.dagsumilat_spec.specs.RecordAnswers.{none, tableByCount, countOfTable, noRecord, good, bySort, answerAt};
@@ -82,6 +83,14 @@ pub extern "C" fn dagsumilat_cut(
             answer[2] = 0;
         }
     }
+}
+
+// A dump's records, state changes, breaks of type 12's sequence and table of states added to a report.
+#[no_mangle]
+pub extern "C" fn dagsumilat_report(dump: &[u8], report: &mut [u64; 39], answer: &mut [u64; 2])
+    ensures { λ _. ⌜ (now (answer .exit) ≡ words.reportWords (now (answer .entry)) (reportAnswer longestMessage (now (report .entry)) (now (dump .entry)))) × (now (report .exit) ≡ reportLeaves longestMessage (now (report .entry)) (now (dump .entry))) ⌝ }
+{
+    dagsumilat_report::report(dump, report, answer)
 }
 
 fn count_of_table(t: Table) -> u64

@@ -9,6 +9,7 @@ use Rattle.record_spec.specs.declared.Entry.the-variants as entries
 use Rattle.walk_spec.specs.declared.Walked.{Walked}
 use Rattle.room_spec.specs.declared.Written.{Written}
 use Rattle.room_spec.specs.Answer as written
+use Rattle.report_spec.specs.declared.Added.{Added}
 use Rattle.dagsumilat_spec.specs.declared.RecordAnswer.{RecordAnswer}
 
 -- words laid over an array, from the i-th on
@@ -22,6 +23,10 @@ words a ws = wordsFrom 0 a ws
 -- fault, place, records
 abbrev pub checkWords : (array : List ℕ) → Walked → List ℕ
 checkWords a w = words a (w .fault ∷ w .place ∷ w .records ∷ [])
+
+-- fault, place
+abbrev pub reportWords : (array : List ℕ) → Added → List ℕ
+reportWords a w = words a (w .fault ∷ w .place ∷ [])
 
 -- fault, place, octets written
 abbrev pub cutWords : (array : List ℕ) → Written → List ℕ

@@ -11,10 +11,11 @@ ghost use Rattle.octets_spec.specs.Be.{numAt};
 ghost use Rattle.page_spec.specs.Peers.{peer};
 ghost use Rattle.form_spec.specs.Found.{Lies, item};
 ghost use Rattle.page_spec.specs.Layout.{finer};
-ghost use Rattle.look_spec.specs.Field.{typeOf, subtypeOf, timeOf, peerOf, widthOf, Known, Is, Shows, Ends, Counted};
+ghost use Rattle.look_spec.specs.Field.{typeOf, subtypeOf, timeOf, peerOf, widthOf, changeBy, statesOf, sequenceOf, Known, Is, Shows, Ends, Counted};
 ghost use Rattle.look_spec.specs.Sort.{table, rib, sortOf, sortBy, isTable};
 ghost use Rattle.look_spec.specs.Items.{SomeEntry, EachEntry, addressSize, peerEnd};
 use octets::number;
+use record_spec::States;
 
 // Where the record ends.
 pub fn end_at(d: &[u8], at: usize) -> usize
@@ -118,7 +119,40 @@ pub fn late_session_peer(d: &[u8], at: usize, subtype: u64) -> u64
     first_as(d, at + 16, subtype)
 }
 
+// Whether records of this type and subtype are state changes.
+pub fn is_change(ty: u64, subtype: u64) -> bool
+    ensures { λ r. ⌜ r ≡ changeBy ty subtype ⌝ }
+{
+    match ty {
+        16..=17 => match subtype {
+            0 | 5 => true,
+            _ => false,
+        },
+        _ => false,
+    }
+}
+
+// A state change: its states, the last fields of the record.
+pub fn states(d: &[u8], at: usize) -> States
+    requires { ⌜ Is (now d) at (λ x. changeBy (typeOf x) (subtypeOf x) ≡ true) ⌝ }
+    ensures { λ r. ⌜ Shows (now (d .entry)) at (λ x. r ≡ statesOf x) ⌝ }
+{
+    let end = at + 12 + number(d, at + 8, 4) as usize;
+    States {
+        old: number(d, end - 4, 2),
+        new: number(d, end - 2, 2),
+    }
+}
+
 // ---- type 12
+
+// The sequence.
+pub fn sequence(d: &[u8], at: usize) -> u16
+    requires { ⌜ Is (now d) at (λ x. typeOf x ≡ 12) ⌝ }
+    ensures { λ r. ⌜ Shows (now (d .entry)) at (λ x. r ≡ sequenceOf x) ⌝ }
+{
+    number(d, at + 14, 2) as u16
+}
 
 // The peer AS.
 pub fn route_peer(d: &[u8], at: usize, subtype: u64) -> u64

@@ -1,6 +1,6 @@
 -- What reading shows of a record, field by field, and what it is to know a record of a dump to be good.
 use mathlib.Core.Path.{_≡_}
-use mathlib.Core.Bool.{_||_}
+use mathlib.Core.Bool.{Bool, _||_, _&&_}
 use mathlib.Core.List.{List}
 use Prim.Native.Nat.{ℕ, _+_, _≤_, _<_}
 use lib.Dec.{eqb}
@@ -8,6 +8,7 @@ use lib.ListN.{length, drop}
 use Rattle.form_spec.specs.Words.{choose}
 use Rattle.octets_spec.specs.Be.{numAt}
 use Rattle.record_spec.specs.declared.Table.{Table}
+use Rattle.record_spec.specs.declared.States.{States}
 use Rattle.record_spec.specs.declared.Shown.{Shown}
 use Rattle.record_spec.specs.declared.Body.{Body}
 use Rattle.record_spec.specs.declared.Body.the-variants.{Unread, TableDump, PeerTable, Rib, RibGeneric, Change, Message}
@@ -39,6 +40,35 @@ peerIn (Message s b) = s .peer
 abbrev pub peerOf : Shown → ℕ
 peerOf x = ofBody 0 peerIn x
 
+-- type 12: the sequence
+abbrev pub sequenceIn : Body → ℕ
+sequenceIn (Unread c) = 0
+sequenceIn (TableDump r) = r .sequence
+sequenceIn (PeerTable p) = 0
+sequenceIn (Rib r) = 0
+sequenceIn (RibGeneric f r) = 0
+sequenceIn (Change s w) = 0
+sequenceIn (Message s b) = 0
+
+abbrev pub sequenceOf : Shown → ℕ
+sequenceOf x = ofBody 0 sequenceIn x
+
+-- a state change: its states
+abbrev pub noStates : States
+noStates = record { old = 0; new = 0 }
+
+abbrev pub statesIn : Body → States
+statesIn (Unread c) = noStates
+statesIn (TableDump r) = noStates
+statesIn (PeerTable p) = noStates
+statesIn (Rib r) = noStates
+statesIn (RibGeneric f r) = noStates
+statesIn (Change s w) = w
+statesIn (Message s b) = noStates
+
+abbrev pub statesOf : Shown → States
+statesOf x = ofBody noStates statesIn x
+
 -- type 13: where the peers or entries start, from the header on, and how many they are
 abbrev pub itemsIn : Body → ℕ
 itemsIn (Unread c) = 0
@@ -67,6 +97,10 @@ countOf x = ofBody 0 countIn x
 -- types 16 and 17: the octets of an AS number, by the Subtype
 unfoldable pub widthOf : (sub : ℕ) → ℕ
 widthOf sub = choose (eqb sub 4 || eqb sub 5 || eqb sub 7) 4 2
+
+-- whether records of this type and subtype are state changes
+unfoldable pub changeBy : (type sub : ℕ) → Bool
+changeBy y u = (eqb y 16 || eqb y 17) && (eqb u 0 || eqb u 5)
 
 -- ---- the record at `at` of the dump d
 

@@ -1,0 +1,81 @@
+// A dump's own report added to a report that a caller keeps: 39 numbers.
+ghost use mathlib.Core.Path.{_≡_};
+ghost use mathlib.Core.Bool.{true};
+ghost use lib.ListN.{length};
+ghost use Rattle.page_spec.specs.Bgp4mp.{longestMessage};
+ghost use Rattle.report_spec.specs.Sum.{numbers, sums, fit};
+ghost use Rattle.report_spec.specs.Answer.{reportAnswer, reportLeaves};
+use page_spec::LONGEST_MESSAGE;
+use report_spec::Added;
+use report_spec::Report;
+use walk::tally;
+
+// The 39 numbers of a report.
+fn numbers(r: Report) -> [u64; 39]
+    ensures { λ ns. ⌜ ns ≡ numbers r ⌝ }
+{
+    let cells = r.cells;
+    let mut all = [0u64; 39];
+    all[0] = r.records;
+    all[1] = r.changes;
+    all[2] = r.breaks;
+    let mut k = 0;
+    while k < 36 {
+        let row = cells[k / 6];
+        all[3 + k] = row[k % 6];
+        k += 1;
+    }
+    all
+}
+
+// Whether each sum is a number of 64 bits.
+fn fit(report: &[u64; 39], more: [u64; 39]) -> bool
+    ensures { λ r. ⌜ r ≡ fit (sums (now (report .entry)) more) ⌝ }
+{
+    let mut k = 0;
+    while k < 39 {
+        if 18446744073709551615 - more[k] < report[k] {
+            return false;
+        }
+        k += 1;
+    }
+    true
+}
+
+fn put_sums(report: &mut [u64; 39], more: [u64; 39])
+    requires { ⌜ fit (sums (now report) more) ≡ true ⌝ }
+    ensures { λ _. ⌜ now (report .exit) ≡ sums (now (report .entry)) more ⌝ }
+{
+    let mut k = 0;
+    while k < 39 {
+        report[k] = report[k] + more[k];
+        k += 1;
+    }
+}
+
+pub fn add_with(d: &[u8], report: &mut [u64; 39], longest: u64) -> Added
+    ensures { λ r. ⌜ (r ≡ reportAnswer longest (now (report .entry)) (now (d .entry))) × (now (report .exit) ≡ reportLeaves longest (now (report .entry)) (now (d .entry))) ⌝ }
+{
+    let k = tally(d, true, longest);
+    let fault = k.fault;
+    let place = k.place;
+    if fault != 0 {
+        return Added { fault, place };
+    }
+    let more = numbers(k.own);
+    if fit(report, more) {
+        put_sums(report, more);
+        return Added { fault, place };
+    }
+    Added {
+        fault: 16,
+        place: 0,
+    }
+}
+
+// The same up to the longest BGP message of today.
+pub fn add(d: &[u8], report: &mut [u64; 39]) -> Added
+    ensures { λ r. ⌜ (r ≡ reportAnswer longestMessage (now (report .entry)) (now (d .entry))) × (now (report .exit) ≡ reportLeaves longestMessage (now (report .entry)) (now (d .entry))) ⌝ }
+{
+    add_with(d, report, LONGEST_MESSAGE)
+}

@@ -1,0 +1,36 @@
+-- What adding a dump to a report answers and leaves there: the dump's fault first, then 16 where a sum passes 64 bits, and with either the
+-- report as it was.
+use mathlib.Core.List.{List, map}
+use Prim.Native.Nat.{ℕ}
+use lib.Dec.{eqb}
+use Rattle.form_spec.specs.Words.{choose}
+use Rattle.form_spec.specs.Dump.{Walk, walkAll}
+use Rattle.page_spec.specs.Layout.{layout}
+use Rattle.report_spec.specs.declared.Report.{Report}
+use Rattle.report_spec.specs.declared.Added.{Added}
+use Rattle.report_spec.specs.Notice.{notice}
+use Rattle.report_spec.specs.Own.{own}
+use Rattle.report_spec.specs.Sum.{numbers, sums, fit}
+
+-- `longest` counts the octets of the longest BGP message
+module _ (longest : ℕ) where
+  -- the report of the records that a walk went over
+  abbrev pub ownOf : Walk → Report
+  ownOf w = own (map (notice longest) (w .recs))
+
+  -- the 39 numbers of `report` with the dump's added
+  abbrev pub total : (report : List ℕ) → Walk → List ℕ
+  total report w = sums report (numbers (ownOf w))
+
+  abbrev pub answerOf : (report : List ℕ) → Walk → Added
+  answerOf report w =
+      choose (eqb (w .fault) 0) (choose (fit (total report w)) (record { fault = 0; place = w .place }) (record { fault = 16; place = 0 })) (record { fault = w .fault; place = w .place })
+
+  abbrev pub leavesOf : (report : List ℕ) → Walk → List ℕ
+  leavesOf report w = choose (eqb (w .fault) 0) (choose (fit (total report w)) (total report w) report) report
+
+  unfoldable pub reportAnswer : (report d : List ℕ) → Added
+  reportAnswer report d = answerOf report (walkAll (layout longest) d)
+
+  unfoldable pub reportLeaves : (report d : List ℕ) → List ℕ
+  reportLeaves report d = leavesOf report (walkAll (layout longest) d)

@@ -1,0 +1,5 @@
+pub mod Notice
+pub mod Own
+pub mod Tally
+pub mod Sum
+pub mod Answer
