@@ -6,7 +6,7 @@ ghost use Prim.Native.Nat.{_+_, _-_, _^_, _≤_, _<_};
 ghost use lib.ListN.{getD};
 ghost use Rattle.look_spec.specs.Field.{Known, Shows};
 ghost use Rattle.report_spec.specs.Notice.{noticeOf, InStates};
-ghost use Rattle.report_spec.specs.Own.{broken};
+ghost use Rattle.report_spec.specs.Own.{broken, numbers};
 ghost use Rattle.report_spec.specs.Tally.{bumped};
 ghost use Rattle.report_spec.specs.declared.Notice.the-variants.{Plain, Change};
 use look::is_change;
@@ -66,4 +66,20 @@ pub fn broken(last: Last, sequence: u16) -> u64
         return 0;
     }
     1
+}
+
+// The 39 numbers of a report.
+pub fn numbers(records: u64, changes: u64, breaks: u64, cells: [[u64; 6]; 6]) -> [u64; 39]
+    ensures { λ r. ⌜ r ≡ numbers records changes breaks cells ⌝ }
+{
+    let mut all = [0u64; 39];
+    all[0] = records;
+    all[1] = changes;
+    all[2] = breaks;
+    let mut k = 0;
+    while k < 36 {
+        all[3 + k] = cells[k / 6][k % 6];
+        k += 1;
+    }
+    all
 }

@@ -3,30 +3,11 @@ ghost use mathlib.Core.Path.{_≡_};
 ghost use mathlib.Core.Bool.{true};
 ghost use lib.ListN.{length};
 ghost use Rattle.page_spec.specs.Bgp4mp.{longestMessage};
-ghost use Rattle.report_spec.specs.Sum.{numbers, sums, fit};
+ghost use Rattle.report_spec.specs.Sum.{sums, fit};
 ghost use Rattle.report_spec.specs.Answer.{reportAnswer, reportLeaves};
 use page_spec::LONGEST_MESSAGE;
 use report_spec::Added;
-use report_spec::Report;
 use walk::tally;
-
-// The 39 numbers of a report.
-fn numbers(r: Report) -> [u64; 39]
-    ensures { λ ns. ⌜ ns ≡ numbers r ⌝ }
-{
-    let cells = r.cells;
-    let mut all = [0u64; 39];
-    all[0] = r.records;
-    all[1] = r.changes;
-    all[2] = r.breaks;
-    let mut k = 0;
-    while k < 36 {
-        let row = cells[k / 6];
-        all[3 + k] = row[k % 6];
-        k += 1;
-    }
-    all
-}
 
 // Whether each sum is a number of 64 bits.
 fn fit(report: &[u64; 39], more: [u64; 39]) -> bool
@@ -62,7 +43,7 @@ pub fn add_with(d: &[u8], report: &mut [u64; 39], longest: u64) -> Added
     if fault != 0 {
         return Added { fault, place };
     }
-    let more = numbers(k.own);
+    let more = k.own;
     if fit(report, more) {
         put_sums(report, more);
         return Added { fault, place };

@@ -6,21 +6,20 @@ use lib.Dec.{eqb}
 use Rattle.form_spec.specs.Words.{choose}
 use Rattle.form_spec.specs.Dump.{Walk, walkAll}
 use Rattle.page_spec.specs.Layout.{layout}
-use Rattle.report_spec.specs.declared.Report.{Report}
 use Rattle.report_spec.specs.declared.Added.{Added}
 use Rattle.report_spec.specs.Notice.{notice}
 use Rattle.report_spec.specs.Own.{own}
-use Rattle.report_spec.specs.Sum.{numbers, sums, fit}
+use Rattle.report_spec.specs.Sum.{sums, fit}
 
 -- `longest` counts the octets of the longest BGP message
 module _ (longest : ℕ) where
   -- the report of the records that a walk went over
-  abbrev pub ownOf : Walk → Report
+  abbrev pub ownOf : Walk → List ℕ
   ownOf w = own (map (notice longest) (w .recs))
 
   -- the 39 numbers of `report` with the dump's added
   abbrev pub total : (report : List ℕ) → Walk → List ℕ
-  total report w = sums report (numbers (ownOf w))
+  total report w = sums report (ownOf w)
 
   abbrev pub answerOf : (report : List ℕ) → Walk → Added
   answerOf report w =

@@ -1,6 +1,6 @@
 -- A dump's own report, counted over what its records give notice of, in their order.
 use mathlib.Core.Bool.{cond, _&&_}
-use mathlib.Core.List.{List, [], _∷_, map}
+use mathlib.Core.List.{List, [], _∷_, _++_, map}
 use Prim.Native.Nat.{ℕ, _+_, _%_}
 use lib.Dec.{eqb}
 use lib.ListN.{length}
@@ -8,7 +8,6 @@ use Rattle.report_spec.specs.declared.Notice.{Notice}
 use Rattle.report_spec.specs.declared.Notice.the-variants.{Plain, Change, Sequence}
 use Rattle.report_spec.specs.declared.Last.{Last}
 use Rattle.report_spec.specs.declared.Last.the-variants.{Absent, Was}
-use Rattle.report_spec.specs.declared.Report.{Report}
 
 -- ---- state changes
 
@@ -58,5 +57,13 @@ breaksBehind l (Sequence s ∷ ns) = broken l s + breaksBehind (Was s) ns
 
 -- ---- all of it
 
-unfoldable pub own : List Notice → Report
-own ns = record { records = length ns; changes = changes ns; breaks = breaksBehind Absent ns; cells = cells ns }
+abbrev pub joined : List (List ℕ) → List ℕ
+joined [] = []
+joined (r ∷ rs) = r ++ joined rs
+
+-- the 39 numbers: records, changes, breaks, and the cells row by row
+abbrev pub numbers : (records changes breaks : ℕ) (cells : List (List ℕ)) → List ℕ
+numbers r c b t = r ∷ c ∷ b ∷ joined t
+
+unfoldable pub own : List Notice → List ℕ
+own ns = numbers (length ns) (changes ns) (breaksBehind Absent ns) (cells ns)

@@ -1,18 +1,9 @@
--- The 39 numbers of a report, and their sums with those of another.
+-- A report's numbers, and their sums with those of another.
 use mathlib.Core.Bool.{Bool, true, _&&_}
-use mathlib.Core.List.{List, [], _∷_, _++_}
+use mathlib.Core.List.{List, [], _∷_}
 use Prim.Native.Nat.{ℕ, _+_, _^_}
 use lib.Dec.{ltb}
 use lib.ListN.{replicate}
-use Rattle.report_spec.specs.declared.Report.{Report}
-
-abbrev pub joined : List (List ℕ) → List ℕ
-joined [] = []
-joined (r ∷ rs) = r ++ joined rs
-
--- records, changes, breaks, and the cells row by row
-unfoldable pub numbers : Report → List ℕ
-numbers r = r .records ∷ r .changes ∷ r .breaks ∷ joined (r .cells)
 
 -- a report that has counted nothing
 abbrev pub empty : List ℕ

@@ -1,12 +1,4 @@
-// What a report counts, and what counting and adding answer.
-
-// Records, state changes, breaks of type 12's sequence, and for each old state, 1 to 6, how often each new one followed it.
-pub struct Report {
-    pub records: u64,
-    pub changes: u64,
-    pub breaks: u64,
-    pub cells: [[u64; 6]; 6],
-}
+// What a report heeds, and what counting and adding answer.
 
 // What a report heeds in one record.
 pub enum Notice {
@@ -23,11 +15,12 @@ pub enum Last {
     Was(u16),
 }
 
-// What going through a dump answers: the first fault's number and place, or 0 and the dump's length, and the report of the records before.
+// What going through a dump answers: the first fault's number and place, or 0 and the dump's length, and the report of the records before:
+// records, state changes, breaks of type 12's sequence, and for each old state, 1 to 6, how often each new one followed it.
 pub struct Tallied {
     pub fault: u8,
     pub place: usize,
-    pub own: Report,
+    pub own: [u64; 39],
 }
 
 // What adding a dump to a report answers.
