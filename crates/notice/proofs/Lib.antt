@@ -1,1 +1,2 @@
 pub mod Noticed
+pub mod Rows

@@ -6,7 +6,7 @@ ghost use Prim.Native.Nat.{_+_, _-_, _^_, _≤_, _<_};
 ghost use lib.ListN.{getD};
 ghost use Rattle.look_spec.specs.Field.{Known, Shows};
 ghost use Rattle.report_spec.specs.Notice.{noticeOf, InStates};
-ghost use Rattle.report_spec.specs.Own.{broken, numbers};
+ghost use Rattle.report_spec.specs.Own.{following, broken, numbers};
 ghost use Rattle.report_spec.specs.Tally.{bumped};
 ghost use Rattle.report_spec.specs.declared.Notice.the-variants.{Plain, Change};
 use look::is_change;
@@ -55,6 +55,13 @@ pub fn bumped(cells: [[u64; 6]; 6], old: u64, new: u64) -> [[u64; 6]; 6]
     next
 }
 
+// The sequence after this one.
+fn following(before: u16) -> u64
+    ensures { λ r. ⌜ r ≡ following before ⌝ }
+{
+    std::num::wrapping_add_u16(before, 1) as u64
+}
+
 // 1 where the sequence does not follow the last one.
 pub fn broken(last: Last, sequence: u16) -> u64
     ensures { λ r. ⌜ r ≡ broken last sequence ⌝ }
@@ -62,10 +69,10 @@ pub fn broken(last: Last, sequence: u16) -> u64
     let Last::Was(before) = last else {
         return 0;
     };
-    if std::num::wrapping_add_u16(before, 1) == sequence {
-        return 0;
+    if following(before) != sequence as u64 {
+        return 1;
     }
-    1
+    0
 }
 
 // The 39 numbers of a report.

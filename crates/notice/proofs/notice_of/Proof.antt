@@ -1,6 +1,7 @@
 -- `notice::notice_of` meets its contract.
 use mathlib.Core.Path.{_≡_, sym, ap, ap₂, _∙_}
 use Prim.Native.Nat.{ℕ}
+use native.Mathlib.Omega.{arith}
 use lib.Dec.{eqb}
 use denote.Ref.{now}
 use borrow.Author.Tests.{eq-eqb, ne-eqb}
@@ -56,7 +57,7 @@ returns-2 c =
     let q = c .before .before in
     let a = start (typed q) .args in
     let e = c .states .ensures in
-    ((e .0, e .1, e .2, e .3), λ t g. notice-change (shown t (now (a .d)) (a .at)) _ (marked t _ _ g .2 ∙ sym (changes q t g) ∙ c .before .if2 .taken) (e .4 t g))
+    (omega (arith, e .0, e .1, e .2, e .3), λ t g. notice-change (shown t (now (a .d)) (a .at)) _ (marked t _ _ g .2 ∙ sym (changes q t g) ∙ c .before .if2 .taken) (e .4 t g))
 
 returns-3 : tie.Need-returns-3
 returns-3 c =
