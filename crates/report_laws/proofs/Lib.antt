@@ -1,2 +1,5 @@
 pub mod Own
 pub mod Shown
+pub mod Adding
+pub mod Answers
+pub mod Sums

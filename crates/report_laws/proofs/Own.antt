@@ -67,7 +67,7 @@ set-state f g (suc (suc (suc (suc (suc (suc (suc j))))))) a b e = absurd (omega 
 
 -- ---- the table, a record at a time
 
-abbrev row : List Notice → ℕ → List ℕ
+abbrev pub row : List Notice → ℕ → List ℕ
 row ns old = map (λ new. times old new ns) states
 
 same-row : (ms ns : List Notice) (old : ℕ) → ((new : ℕ) → times old new ms ≡ times old new ns) → row ms old ≡ row ns old

@@ -12,7 +12,7 @@ use Rattle.form_spec.specs.Octets.{be, toBe}
 use Rattle.form_spec.specs.Fmt.{Fmt, field, find, Fits}
 use Rattle.form_spec.specs.Words.{choose, num, skip, fail, checked, inRange}
 use Rattle.form_spec.specs.Body as form
-use Rattle.form_spec.specs.Shape.{St, Layout, fields, plan, frontOf, value}
+use Rattle.form_spec.specs.Shape.{St, Layout, plan, frontOf, value}
 use Rattle.form_spec.specs.Record.{Rec, Valid}
 use Rattle.form_spec.specs.Put.{Value, lay}
 use Rattle.form_spec.specs.Gives.{Fit}
