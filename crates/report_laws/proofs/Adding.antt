@@ -1,11 +1,14 @@
 -- Lists of numbers added number by number, and their sums.
 use mathlib.Core.Path.{_≡_, refl, ap}
+use mathlib.Core.Bool.{Bool, true, false, _&&_, false≢true}
 use mathlib.Core.List.{List, [], _∷_, _++_, map}
-use Prim.Native.Nat.{ℕ, zero, suc, _+_}
+use Prim.Native.Nat.{ℕ, zero, suc, _+_, _^_, _<_}
 use native.Mathlib.Omega.{arith}
-use lib.ListN.{length, drop, getD}
+use lib.Dec.{ltb}
+use lib.ListN.{length, drop, getD, replicate}
+use borrow.Author.Tests.{ltb-true, lt-ltb}
 use Rattle.report_spec.specs.Own.{joined}
-use Rattle.report_spec.specs.Sum.{sums, sumOf}
+use Rattle.report_spec.specs.Sum.{sums, fit, sumOf}
 
 pub sum-append : (ns ms : List ℕ) → sumOf (ns ++ ms) ≡ sumOf ns + sumOf ms
 sum-append [] ms = omega arith
@@ -18,6 +21,11 @@ sum-joined (r ∷ rows) = omega (arith, sum-append r (joined rows), sum-joined r
 pub sums-none : (ns : List ℕ) → sums ns [] ≡ []
 sums-none [] = refl
 sums-none (n ∷ ns) = refl
+
+pub sums-zero : (ns : List ℕ) (k : ℕ) → length ns ≡ k → sums ns (replicate k 0) ≡ ns
+sums-zero [] k e = refl
+sums-zero (n ∷ ns) zero e = absurd (omega arith)
+sums-zero (n ∷ ns) (suc k) e = let z : n + 0 ≡ n = omega arith in rw (z, sums-zero ns k (omega arith))
 
 pub sums-swap : (ns ms : List ℕ) → sums ns ms ≡ sums ms ns
 sums-swap [] [] = refl
@@ -54,3 +62,18 @@ sum-sums [] [] e = refl
 sum-sums [] (m ∷ ms) e = absurd (omega arith)
 sum-sums (n ∷ ns) [] e = absurd (omega arith)
 sum-sums (n ∷ ns) (m ∷ ms) e = omega (arith, sum-sums ns ms (omega arith))
+
+-- ---- numbers of 64 bits
+
+both-true : (a b : Bool) → (a && b) ≡ true → (a ≡ true) × (b ≡ true)
+both-true true b e = (refl, e)
+both-true false b e = absurd (false≢true e)
+
+-- what is added takes nothing away
+pub fit-less : (ns ms : List ℕ) → length ns ≡ length ms → fit (sums ns ms) ≡ true → fit ns ≡ true
+fit-less [] ms e h = refl
+fit-less (n ∷ ns) [] e h = absurd (omega arith)
+fit-less (n ∷ ns) (m ∷ ms) e h =
+    let a = both-true (ltb (n + m) (2 ^ 64)) (fit (sums ns ms)) h in
+    let b : n + m < 2 ^ 64 = ltb-true (n + m) (2 ^ 64) (a .0) in
+    rw (lt-ltb n (2 ^ 64) (omega arith)) (fit-less ns ms (omega arith) (a .1))

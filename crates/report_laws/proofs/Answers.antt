@@ -34,6 +34,9 @@ pub length-own : (ns : List Notice) → length (own ns) ≡ 39
 unfolding own cells
 length-own ns = refl
 
+pub length-report : (longest : ℕ) (d : List ℕ) → length (reportOf longest d) ≡ 39
+length-report longest d = length-own (map (notice longest) ((walkAll (layout longest) d) .recs))
+
 -- ---- the three ways
 
 module _ (longest : ℕ) (report d : List ℕ) where
@@ -82,4 +85,4 @@ module _ (longest : ℕ) (report d : List ℕ) where
   pub stays-report : Octets d → length report ≡ 39 → fit report ≡ true → (length (reportLeaves longest report d) ≡ 39) × (fit (reportLeaves longest report d) ≡ true)
   stays-report oc l g =
       ways oc (λ x r. (length r ≡ 39) × (fit r ≡ true)) (λ h. (l, g)) (λ s f. (l, g))
-      (λ s f. (length-sums report (reportOf longest d) (l ∙ sym (length-own (map (notice longest) ((walkAll (layout longest) d) .recs)))) ∙ l, f))
+      (λ s f. (length-sums report (reportOf longest d) (l ∙ sym (length-report longest d)) ∙ l, f))

@@ -3,3 +3,4 @@ pub mod Shown
 pub mod Adding
 pub mod Answers
 pub mod Sums
+pub mod Ends

@@ -135,7 +135,7 @@ once : (t : Bool) → (cond t 1 0 ≤ 1) × (cond t 0 1 ≤ 1)
 once true = (omega arith, omega arith)
 once false = (omega arith, omega arith)
 
-broken-once : (l : Last) (s : ℕ) → broken l s ≤ 1
+pub broken-once : (l : Last) (s : ℕ) → broken l s ≤ 1
 broken-once Absent s = omega arith
 broken-once (Was p) s = once (eqb (following p) s) .1
 

@@ -9,7 +9,7 @@ use Rattle.form_spec.specs.Dump.{Walk, walkAll}
 use Rattle.page_spec.specs.Layout.{layout}
 use Rattle.report_spec.specs.declared.Added.{Added}
 use Rattle.report_spec.specs.Notice.{notice}
-use Rattle.report_spec.specs.Own.{own}
+use Rattle.report_spec.specs.Own.{seam, own}
 use Rattle.report_spec.specs.Sum.{sums, fit}
 
 -- `longest` counts the octets of the longest BGP message
@@ -38,6 +38,10 @@ module _ (longest : ℕ) where
   -- a dump's own report
   abbrev pub reportOf : (d : List ℕ) → List ℕ
   reportOf d = ownOf (walkAll (layout longest) d)
+
+  -- the break between two dumps, laid end to end
+  abbrev pub seamOf : (a b : List ℕ) → ℕ
+  seamOf a b = seam (map (notice longest) ((walkAll (layout longest) a) .recs)) (map (notice longest) ((walkAll (layout longest) b) .recs))
 
   -- behind dumps, each added in turn
   abbrev pub reportsLeave : (report : List ℕ) (ds : List (List ℕ)) → List ℕ
