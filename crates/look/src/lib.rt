@@ -135,9 +135,9 @@ pub fn is_change(ty: u64, subtype: u64) -> bool
 // A state change: its states, the last fields of the record.
 pub fn states(d: &[u8], at: usize) -> States
     requires { ⌜ Is (now d) at (λ x. changeBy (typeOf x) (subtypeOf x) ≡ true) ⌝ }
-    ensures { λ r. ⌜ Shows (now (d .entry)) at (λ x. r ≡ statesOf x) ⌝ }
+    ensures { λ r. ⌜ (1 ≤ r .old) × (r .old ≤ 6) × (1 ≤ r .new) × (r .new ≤ 6) × Shows (now (d .entry)) at (λ x. r ≡ statesOf x) ⌝ }
 {
-    let end = at + 12 + number(d, at + 8, 4) as usize;
+    let end = end_at(d, at);
     States {
         old: number(d, end - 4, 2),
         new: number(d, end - 2, 2),

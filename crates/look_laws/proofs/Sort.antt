@@ -1,9 +1,11 @@
--- Type and subtype say the sort of a good record.
+-- Type and subtype say the sort of a good record, and whether it is a state change.
 use mathlib.Core.Path.{_≡_, refl, sym, ap, _∙_}
-use mathlib.Core.Bool.{Bool, true, false, _||_, false≢true}
+use mathlib.Core.Bool.{Bool, true, false, _||_, _&&_, false≢true}
 use mathlib.Core.Logic.{_⊎_, inl, inr, ⊎-elim}
 use mathlib.Core.List.{List}
-use Prim.Native.Nat.{ℕ}
+use Prim.Native.Nat.{ℕ, _≤_, _<_}
+use native.Mathlib.Omega.{arith}
+use native.Mathlib.Nat.{eq-or-lt-of-le}
 use lib.Dec.{eqb}
 use borrow.Author.Tests.{eqb-true, eq-eqb, ne-eqb}
 use Rattle.form_spec.specs.Words.{choose, inRange}
@@ -12,58 +14,63 @@ use Rattle.page_spec.specs.declared.Kind.{Kind}
 use Rattle.record_spec.specs.declared.Shown.{Shown}
 use Rattle.page_laws.proofs.Choice.{by-test, either}
 use Rattle.look_spec.specs.Sort.{Sort, unread, ofPeer, table, rib, sortOf, sortBy, isTable}
-use Rattle.look_laws.proofs.Good.{Facts}
+use Rattle.look_spec.specs.Field.{changeBy}
+use Rattle.look_laws.proofs.Good.{Marked, Facts}
 
 module _ (m : List ℕ) (x : Shown) where
-  sort12 : (u : ℕ) → Facts m (kind12 u) x → sortOf x ≡ ofPeer
+  marks12 : (u : ℕ) → Facts m (kind12 u) x → Marked ofPeer true false x
   unfolding kind12
-  sort12 u = by-test P (eqb u 1) _ _ (λ e f. f .1) (by-test P (eqb u 2) _ _ (λ e f. f .1) (λ f. absurd f))
+  marks12 u = by-test P (eqb u 1) _ _ (λ e f. f .1) (by-test P (eqb u 2) _ _ (λ e f. f .1) (λ f. absurd f))
     where
       P : Kind → Type 0
-      P k = Facts m k x → sortOf x ≡ ofPeer
+      P k = Facts m k x → Marked ofPeer true false x
 
-  sort16 : (micro u : ℕ) → Facts m (kind16 micro u) x → sortOf x ≡ ofPeer
+  marks16 : (micro u : ℕ) → Facts m (kind16 micro u) x → Marked ofPeer false (eqb u 0 || eqb u 5) x
   unfolding kind16
-  sort16 micro u =
-      by-test P (eqb u 0) _ _ (λ e f. f .1)
-      (by-test P (eqb u 5) _ _ (λ e f. f .1)
-      (by-test P (eqb u 1 || eqb u 6) _ _ (λ e f. f .1)
-      (by-test P (eqb u 4 || eqb u 7) _ _ (λ e f. f .1) (λ f. absurd f))))
+  marks16 micro u =
+      by-test P (eqb u 0) _ _ (λ e f. is 0 e (f .1))
+      (by-test P (eqb u 5) _ _ (λ e f. is 5 e (f .1))
+      (by-test P (eqb u 1 || eqb u 6) _ _ (λ e f. ⊎-elim (λ z. is 1 z (f .1)) (λ z. is 6 z (f .1)) (either (eqb u 1) (eqb u 6) e))
+      (by-test P (eqb u 4 || eqb u 7) _ _ (λ e f. ⊎-elim (λ z. is 4 z (f .1)) (λ z. is 7 z (f .1)) (either (eqb u 4) (eqb u 7) e)) (λ f. absurd f))))
     where
       P : Kind → Type 0
-      P k = Facts m k x → sortOf x ≡ ofPeer
+      P k = Facts m k x → Marked ofPeer false (eqb u 0 || eqb u 5) x
+
+      is : (n : ℕ) → eqb u n ≡ true → Marked ofPeer false (eqb n 0 || eqb n 5) x → Marked ofPeer false (eqb u 0 || eqb u 5) x
+      is n e h = rw (eqb-true u n e) h
 
   -- no subtype from 2 on is that of a peer table
   not-first : (lo u hi : ℕ) → inRange lo 1 hi ≡ false → inRange lo u hi ≡ true → eqb u 1 ≡ false
   not-first lo u hi n e = ne-eqb u 1 (λ z. false≢true (sym n ∙ (rw z at e)))
 
-  sort13 : (u : ℕ) → Facts m (kind13 u) x → sortOf x ≡ choose (eqb u 1) table rib
+  marks13 : (u : ℕ) → Facts m (kind13 u) x → Marked (choose (eqb u 1) table rib) false false x
   unfolding kind13 choose inRange
-  sort13 u =
+  marks13 u =
       by-test P (eqb u 1) _ _ (λ e f. rw e (f .1))
       (by-test P (inRange 2 u 3) _ _ (λ e f. rw (not-first 2 u 3 refl e) (f .1))
       (by-test P (inRange 4 u 5) _ _ (λ e f. rw (not-first 4 u 5 refl e) (f .1))
       (by-test P (eqb u 6) _ _ (λ e f. rw (eqb-true u 6 e) (f .1)) (λ f. absurd f))))
     where
       P : Kind → Type 0
-      P k = Facts m k x → sortOf x ≡ choose (eqb u 1) table rib
+      P k = Facts m k x → Marked (choose (eqb u 1) table rib) false false x
 
-  pub sort-says : (y u : ℕ) → Facts m (kind y u) x → sortOf x ≡ sortBy y u
-  unfolding kind sortBy choose
-  sort-says y u =
+  -- type 12, and the state changes of types 16 and 17, are told apart with the sort
+  pub marks-say : (y u : ℕ) → Facts m (kind y u) x → Marked (sortBy y u) (eqb y 12) (changeBy y u) x
+  unfolding kind sortBy changeBy choose
+  marks-say y u =
       by-test P (eqb y 11 || eqb y 32 || eqb y 48) _ _
-      (λ e f. f .1 ∙ ⊎-elim (λ z. ⊎-elim (of 11) (of 32) (either (eqb y 11) (eqb y 32) z)) (of 48) (either (eqb y 11 || eqb y 32) (eqb y 48) e))
-      (by-test P (eqb y 33 || eqb y 49) _ _ (λ e f. f .1 ∙ ⊎-elim (of 33) (of 49) (either (eqb y 33) (eqb y 49) e))
-      (by-test P (eqb y 12) _ _ (λ e f. sort12 u f ∙ of 12 e)
-      (by-test P (eqb y 13) _ _ (λ e f. sort13 u f ∙ of 13 e)
-      (by-test P (eqb y 16) _ _ (λ e f. sort16 0 u f ∙ of 16 e)
-      (by-test P (eqb y 17) _ _ (λ e f. sort16 4 u f ∙ of 17 e) (λ f. absurd f))))))
+      (λ e f. ⊎-elim (λ z. ⊎-elim (λ t. of 11 t (f .1)) (λ t. of 32 t (f .1)) (either (eqb y 11) (eqb y 32) z)) (λ t. of 48 t (f .1)) (either (eqb y 11 || eqb y 32) (eqb y 48) e))
+      (by-test P (eqb y 33 || eqb y 49) _ _ (λ e f. ⊎-elim (λ t. of 33 t (f .1)) (λ t. of 49 t (f .1)) (either (eqb y 33) (eqb y 49) e))
+      (by-test P (eqb y 12) _ _ (λ e f. of 12 e (marks12 u f))
+      (by-test P (eqb y 13) _ _ (λ e f. of 13 e (marks13 u f))
+      (by-test P (eqb y 16) _ _ (λ e f. of 16 e (marks16 0 u f))
+      (by-test P (eqb y 17) _ _ (λ e f. of 17 e (marks16 4 u f)) (λ f. absurd f))))))
     where
       P : Kind → Type 0
-      P k = Facts m k x → sortOf x ≡ sortBy y u
+      P k = Facts m k x → Marked (sortBy y u) (eqb y 12) (changeBy y u) x
 
-      of : (n : ℕ) → eqb y n ≡ true → sortBy n u ≡ sortBy y u
-      of n e = ap (λ (z : ℕ). sortBy z u) (sym (eqb-true y n e))
+      of : (n : ℕ) → eqb y n ≡ true → Marked (sortBy n u) (eqb n 12) (changeBy n u) x → Marked (sortBy y u) (eqb y 12) (changeBy y u) x
+      of n e h = rw (eqb-true y n e) h
 
 -- ---- from type and subtype
 
@@ -82,6 +89,23 @@ sort-other y u e f = rw (e, ne-eqb u 1 f)
 pub sort-unread : (y u : ℕ) → (y ≡ 12 → ⊥) → (y ≡ 13 → ⊥) → (y ≡ 16 → ⊥) → (y ≡ 17 → ⊥) → sortBy y u ≡ unread
 unfolding sortBy choose
 sort-unread y u a b c d = rw (ne-eqb y 12 a, ne-eqb y 13 b, ne-eqb y 16 c, ne-eqb y 17 d)
+
+pub change-first : (y u : ℕ) → 16 ≤ y → y ≤ 17 → (u ≡ 0) ⊎ (u ≡ 5) → true ≡ changeBy y u
+unfolding changeBy
+change-first y u h g (inl e) = ⊎-elim (λ (z : 16 ≡ y). rw (← z, e)) (λ (z : 16 < y). let w : y ≡ 17 = omega arith in rw (w, e)) (eq-or-lt-of-le h)
+change-first y u h g (inr e) = ⊎-elim (λ (z : 16 ≡ y). rw (← z, e)) (λ (z : 16 < y). let w : y ≡ 17 = omega arith in rw (w, e)) (eq-or-lt-of-le h)
+
+pub change-other : (y u : ℕ) → (u ≡ 0 → ⊥) → (u ≡ 5 → ⊥) → false ≡ changeBy y u
+unfolding changeBy
+change-other y u a b = rw (ne-eqb u 0 a, ne-eqb u 5 b) (go (eqb y 16 || eqb y 17))
+  where
+    go : (t : Bool) → false ≡ t && false
+    go true = refl
+    go false = refl
+
+pub no-change : (y u : ℕ) → (y ≡ 16 → ⊥) → (y ≡ 17 → ⊥) → false ≡ changeBy y u
+unfolding changeBy
+no-change y u a b = rw (ne-eqb y 16 a, ne-eqb y 17 b)
 
 -- which types have microseconds
 pub early : (y : ℕ) → (y ≡ 17 → ⊥) → (y ≡ 33 → ⊥) → (y ≡ 49 → ⊥) → finer y ≡ false

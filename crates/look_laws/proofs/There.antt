@@ -1,6 +1,6 @@
 -- The good record at a place of a dump: where its fields lie in the dump.
 use mathlib.Core.Path.{_≡_, refl, sym, ap, ap₂, _∙_, subst}
-use mathlib.Core.Bool.{Bool, true, false, _||_}
+use mathlib.Core.Bool.{Bool, true, false, _||_, false≢true}
 use mathlib.Core.Logic.{_⊎_, ⊎-elim}
 use mathlib.Core.List.{List, _++_}
 use Prim.Native.Nat.{ℕ, _+_, _*_, _-_, _/_, _≤_, _<_}
@@ -8,7 +8,7 @@ use native.Mathlib.Omega.{arith}
 use lib.Dec.{ltb, eqb}
 use lib.ListN.{length, take, drop, length-drop, take-append-drop}
 use lib.Seq.{length-take-le, take-append-le, drop-append-le, drop-drop}
-use borrow.Author.Tests.{ltb-false, ne-eqb, eqb-true}
+use borrow.Author.Tests.{ltb-false, eq-eqb, ne-eqb, eqb-true}
 use Rattle.form_spec.specs.Words.{choose, inRange}
 use Rattle.octets_spec.specs.Be.{numAt}
 use Rattle.page_spec.specs.Layout.{kind12, kind13, kind16, kind, finer}
@@ -19,10 +19,10 @@ use Rattle.record_spec.specs.declared.Shown.{Shown}
 use Rattle.record_spec.specs.Answer.{fault}
 use Rattle.record_spec.specs.One.{shownAs, wholeRecord, readOne}
 use Rattle.page_laws.proofs.Choice.{Says, kind-says, by-test, either}
-use Rattle.look_spec.specs.Sort.{sortOf, sortBy}
-use Rattle.look_spec.specs.Field.{typeOf, subtypeOf, timeOf, peerOf, itemsAt, countOf, widthOf, Told, shown, Good, Is, Shows, Ends, Counted}
-use Rattle.look_laws.proofs.Good.{Heads, Counts, Spoken, Routed, Facts, facts, microIn, behindPrefix}
-use Rattle.look_laws.proofs.Sort.{sort-says}
+use Rattle.look_spec.specs.Sort.{isRoute, isChange, sortOf, sortBy}
+use Rattle.look_spec.specs.Field.{typeOf, subtypeOf, timeOf, peerOf, sequenceOf, statesOf, itemsAt, countOf, widthOf, changeBy, Told, shown, Good, Is, Shows, Ends, Counted}
+use Rattle.look_laws.proofs.Good.{IsState, Marked, Heads, Counts, Spoken, Routed, Turned, Facts, facts, microIn, behindPrefix}
+use Rattle.look_laws.proofs.Sort.{marks-say}
 
 -- ---- the record that starts s
 
@@ -121,6 +121,28 @@ module _ (m : List ℕ) (x : Shown) where
 
       is : (n w : ℕ) → w ≡ widthOf n → eqb u n ≡ true → Spoken m micro w x → Spoken m micro (widthOf u) x
       is n w h e s = subst (λ (v : ℕ). Spoken m micro v x) (h ∙ ap widthOf (sym (eqb-true u n e))) s
+
+-- what a record of type 12, and a state change, has alone
+module _ (m : List ℕ) (x : Shown) where
+  sequenced : (k : Kind) → Facts m k x → isRoute x ≡ true → (sequenceOf x ≡ numAt m 14 2) × (16 ≤ length m)
+  sequenced (chosen.Refused n p) f e = absurd f
+  sequenced (chosen.Unread micro) f e = absurd (false≢true (sym (f .1 .1) ∙ e))
+  sequenced (chosen.TableDump size) f e = (f .2 .sequence, omega (arith, f .2 .inside))
+  sequenced chosen.PeerTable f e = absurd (false≢true (sym (f .1 .1) ∙ e))
+  sequenced (chosen.Rib bits) f e = absurd (false≢true (sym (f .1 .1) ∙ e))
+  sequenced chosen.RibGeneric f e = absurd (false≢true (sym (f .1 .1) ∙ e))
+  sequenced (chosen.Change micro w) f e = absurd (false≢true (sym (f .1 .1) ∙ e))
+  sequenced (chosen.Message micro w) f e = absurd (false≢true (sym (f .1 .1) ∙ e))
+
+  turned : (k : Kind) → Facts m k x → isChange x ≡ true → (c : ℕ) × Turned m c x
+  turned (chosen.Refused n p) f e = absurd f
+  turned (chosen.Unread micro) f e = absurd (false≢true (sym (f .1 .2) ∙ e))
+  turned (chosen.TableDump size) f e = absurd (false≢true (sym (f .1 .2) ∙ e))
+  turned chosen.PeerTable f e = absurd (false≢true (sym (f .1 .2) ∙ e))
+  turned (chosen.Rib bits) f e = absurd (false≢true (sym (f .1 .2) ∙ e))
+  turned chosen.RibGeneric f e = absurd (false≢true (sym (f .1 .2) ∙ e))
+  turned (chosen.Change micro w) f e = f .3
+  turned (chosen.Message micro w) f e = absurd (false≢true (sym (f .1 .2) ∙ e))
 
 wide-enough : (u : ℕ) → 2 ≤ widthOf u
 unfolding widthOf choose
@@ -296,8 +318,42 @@ module _ (t : Told) (d : List ℕ) (at : ℕ) (good : Good t d at) where
 
   -- ---- the sort that type and subtype say
 
+  pub marked : Marked (sortBy (typeOf x) (subtypeOf x)) (eqb (typeOf x) 12) (changeBy (typeOf x) (subtypeOf x)) x
+  marked = rw (← type-shown, ← subtype-shown, ← type-here, ← sub-here) (marks-say m x ty sub all)
+
   pub sorted : sortOf x ≡ sortBy (typeOf x) (subtypeOf x)
-  sorted = rw (← type-shown, ← subtype-shown, ← type-here, ← sub-here) (sort-says m x ty sub all)
+  sorted = marked .0
+
+  -- type 12: the sequence
+  pub record Sequenced : Type 0 where
+    pub is : numAt d (at + 14) 2 ≡ sequenceOf x
+    pub inside : at + 16 ≤ length d
+
+  pub sequence-shown : typeOf x ≡ 12 → Sequenced
+  sequence-shown e =
+      let f = sequenced m x (kind ty sub) all (marked .1 ∙ eq-eqb (typeOf x) 12 e) in
+      record { is = sym (f .0 ∙ here 14 2 (f .1)); inside = omega (arith, f .1, size, inside) }
+
+  -- a state change that ends at e: its last octets are its states
+  pub record Turns (e : ℕ) : Type 0 where
+    pub old : numAt d (e - 4) 2 ≡ statesOf x .old
+    pub new : numAt d (e - 2) 2 ≡ statesOf x .new
+    pub from : IsState (statesOf x .old)
+    pub to : IsState (statesOf x .new)
+
+  pub states-shown : changeBy (typeOf x) (subtypeOf x) ≡ true → (e : ℕ) → Ends d at e x → Turns e
+  states-shown h e k =
+      let t = turned m x (kind ty sub) all (marked .2 ∙ h) in
+      let l = t .1 .last in
+      let z : e ≡ at + length m = omega (arith, k .is, heads .ends, here 8 4 (omega (arith, size)), length-here, size) in
+      let p : at + t .0 ≡ e - 4 = omega arith in
+      let q : at + (t .0 + 2) ≡ e - 2 = omega arith in
+      record {
+        old = sym (t .1 .old ∙ (rw p at (here (t .0) 2 (omega arith))));
+        new = sym (t .1 .new ∙ (rw q at (here (t .0 + 2) 2 (omega arith))));
+        from = t .1 .from;
+        to = t .1 .to;
+      }
 
 -- its type and subtype are the same, whatever table it is good with
 module _ (d : List ℕ) (at : ℕ) (t u : Told) (g : Good t d at) (h : Good u d at) where
@@ -310,6 +366,10 @@ module _ (d : List ℕ) (at : ℕ) (t u : Told) (g : Good t d at) (h : Good u d 
 -- and so its sort is theirs
 pub sort-known : (d : List ℕ) (at y u : ℕ) → Is d at (λ x. (typeOf x ≡ y) × (subtypeOf x ≡ u)) → Shows d at (λ x. sortOf x ≡ sortBy y u)
 sort-known d at y u k t g = sorted t d at g ∙ ap₂ sortBy (same-type d at t (k .0) g (k .1) ∙ k .2 .0) (same-subtype d at t (k .0) g (k .1) ∙ k .2 .1)
+
+-- and so is whether it is a state change
+pub change-known : (d : List ℕ) (at : ℕ) → Is d at (λ x. changeBy (typeOf x) (subtypeOf x) ≡ true) → Shows d at (λ x. changeBy (typeOf x) (subtypeOf x) ≡ true)
+change-known d at k t g = ap₂ changeBy (same-type d at t (k .0) g (k .1)) (same-subtype d at t (k .0) g (k .1)) ∙ k .2
 
 -- its items start behind the count at r, which is n
 pub items-counted : (d : List ℕ) (at r n : ℕ) (x : Shown) → Counted d at r x → n ≡ numAt d r 2 → (r + 2 - at ≡ itemsAt x) × (n ≡ countOf x)

@@ -33,6 +33,31 @@ isTable ofPeer = false
 isTable table = true
 isTable rib = false
 
--- as a good record's type and subtype say it
+-- whether it is a record of type 12, whether it is a state change
+abbrev pub routeIn : Body → Bool
+routeIn (Unread c) = false
+routeIn (TableDump r) = true
+routeIn (PeerTable p) = false
+routeIn (Rib r) = false
+routeIn (RibGeneric f r) = false
+routeIn (Change s w) = false
+routeIn (Message s b) = false
+
+abbrev pub isRoute : Shown → Bool
+isRoute x = ofBody false routeIn x
+
+abbrev pub changeIn : Body → Bool
+changeIn (Unread c) = false
+changeIn (TableDump r) = false
+changeIn (PeerTable p) = false
+changeIn (Rib r) = false
+changeIn (RibGeneric f r) = false
+changeIn (Change s w) = true
+changeIn (Message s b) = false
+
+abbrev pub isChange : Shown → Bool
+isChange x = ofBody false changeIn x
+
+-- the sort as a good record's type and subtype say it
 unfoldable pub sortBy : (type sub : ℕ) → Sort
 sortBy y u = choose (eqb y 12 || eqb y 16 || eqb y 17) ofPeer (choose (eqb y 13) (choose (eqb u 1) table rib) unread)
