@@ -16,6 +16,8 @@ pub mod net;
 pub mod peer_table;
 pub mod reader;
 pub mod record;
+pub mod report;
+pub mod report_cases;
 pub mod rib;
 pub mod sample;
 pub mod table_dump;
