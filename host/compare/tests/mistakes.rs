@@ -12,6 +12,7 @@ const SEEDS: u64 = 2_000;
 
 #[derive(Clone, Copy, Debug, PartialEq, Eq)]
 enum Mistake {
+    /// No mistake.
     Right,
     /// A dump's first type 12 record is a break.
     FirstBreaks,
