@@ -1,4 +1,4 @@
-//! A second reader, writer and cutter of MRT dumps, made to be compared with
+//! A second reader, writer, cutter and counter of MRT dumps, made to be compared with
 //! another one. Records are plain values: they are read from a [`reader::Reader`],
 //! can be looked at, changed or filtered, and are put back by a
 //! [`writer::Writer`].

@@ -2,7 +2,7 @@
 
 use crate::desk::{Desk, ReportCall, Spots};
 use crate::lending::Spot;
-use crate::making::{reports, sessions};
+use crate::making::{reports, sessions, sessions_from};
 use crate::tally::Tally;
 use crate::telling::{same, Told};
 use second::dump::Dump;
@@ -37,11 +37,20 @@ pub fn compare_sessions(
     desk: &mut Desk,
     tally: &mut Tally,
 ) -> Result<(), (Vec<u8>, String)> {
-    let (one, other) = (sessions(rng), sessions(rng));
+    let one = sessions(rng);
     let read = Dump::read(&one);
+    let other = after(&read, rng);
     compare(call, &one, &read, rng, desk, tally)
         .and_then(|()| compare_sums(call, [&one, &other], rng, desk, tally))
         .map_err(|told| (one, told))
+}
+
+/// Another dump; one in two goes on where this one ends.
+fn after(read: &Dump, rng: &mut Rng) -> Vec<u8> {
+    match sequences(read).last() {
+        Some(last) if rng.below(2) == 0 => sessions_from(last.wrapping_add(1), rng),
+        _ => sessions(rng),
+    }
 }
 
 /// Adds a dump to a lent report by both programs; the second one's answer.
@@ -83,19 +92,28 @@ fn compare_sums(
     let (reads, both) = ([Dump::read(one), Dump::read(other)], [one, other].concat());
     if reads.iter().all(|read| read.end.fault.is_none()) {
         let seam = seam(&reads);
-        sum.breaks += u64::from(seam);
+        sum.breaks += u64::from(seam == Seam::Breaks);
         let as_one = compare_lent(call, &both, &Report::default(), rng, desk)?.report;
         same(name, as_one, sum)?;
-        tally.seams[usize::from(seam)] += 1;
+        tally.seams[seam as usize] += 1;
     }
     Ok(())
 }
 
-/// Whether the second dump's first sequence breaks the first dump's chain.
-fn seam(reads: &[Dump; 2]) -> bool {
+/// What two dumps laid end to end do to a chain.
+#[derive(Clone, Copy, Debug, PartialEq, Eq)]
+enum Seam {
+    /// One of them has no sequence.
+    None,
+    GoesOn,
+    Breaks,
+}
+
+fn seam(reads: &[Dump; 2]) -> Seam {
     match (sequences(&reads[0]).last(), sequences(&reads[1]).first()) {
-        (Some(last), Some(first)) => last.wrapping_add(1) != *first,
-        _ => false,
+        (Some(last), Some(first)) if last.wrapping_add(1) == *first => Seam::GoesOn,
+        (Some(_), Some(_)) => Seam::Breaks,
+        _ => Seam::None,
     }
 }
 

@@ -65,8 +65,8 @@ pub struct Tally {
     pub goes_on: u64,
     /// Two dumps added one after the other.
     pub sums: u64,
-    /// Two dumps counted as one, without a break at the seam and with one.
-    pub seams: [u64; 2],
+    /// Two dumps counted as one: no chain over the seam, one that goes on there, one that breaks.
+    pub seams: [u64; 3],
 }
 
 impl Default for Tally {
@@ -93,7 +93,7 @@ impl Default for Tally {
             wraps: 0,
             goes_on: 0,
             sums: 0,
-            seams: [0; 2],
+            seams: [0; 3],
         }
     }
 }
@@ -180,8 +180,12 @@ impl fmt::Display for Tally {
         writeln!(f, "  {records} records, {changes} state changes, {breaks} breaks")?;
         writeln!(f, "  {} steps go on, {} of them from 65,535 to 0", self.goes_on, self.wraps)?;
         writeln!(f, "  cells, from 1 to 1 on: {cells:?}")?;
-        let [even, broken] = self.seams;
-        write!(f, "{} sums of two reports; of both dumps as one ", self.sums)?;
-        write!(f, "{even} without and {broken} with a break at the seam")
+        let [none, goes_on, breaks] = self.seams;
+        writeln!(f, "{} sums of two reports", self.sums)?;
+        writeln!(
+            f,
+            "both dumps as one: {goes_on} chains go on at the seam, {breaks} break there,"
+        )?;
+        write!(f, "  and {none} times there is none over it")
     }
 }

@@ -61,7 +61,7 @@ fn is_telling(tally: &Tally) {
     reports_are_telling(tally);
 }
 
-/// Every answer that a report has, every cell, chains that wrap and break, and both sorts of seams.
+/// Every answer that a report has, every cell, chains that wrap and break, and every sort of seam.
 fn reports_are_telling(tally: &Tally) {
     for (answer, count) in tally.reports.iter().enumerate() {
         let is_told = !matches!(answer, 14 | 15);
@@ -73,7 +73,7 @@ fn reports_are_telling(tally: &Tally) {
     assert!(tally.counted[2] > tally.dumps && tally.goes_on > tally.dumps, "few steps:\n{tally}");
     assert!(tally.wraps * 10 > tally.dumps, "few sequences wrap:\n{tally}");
     assert!(tally.sums >= tally.dumps, "few sums:\n{tally}");
-    assert!(tally.seams.iter().all(|count| count * 20 > tally.dumps), "few seams:\n{tally}");
+    assert!(tally.seams.iter().all(|count| count * 40 > tally.dumps), "few seams:\n{tally}");
 }
 
 /// Every number that the writer can answer, and no other.

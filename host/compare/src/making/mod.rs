@@ -16,7 +16,7 @@ pub use fields::Field;
 pub use given::{given, room, MadeGiven, Writer};
 pub use records::Maker;
 pub use reports::reports;
-pub use sessions::sessions;
+pub use sessions::{sessions, sessions_from};
 
 use second::cut_cases;
 use second::vectors::rng::Rng;

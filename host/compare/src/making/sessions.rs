@@ -10,10 +10,14 @@ const STARTS: [u16; 7] = [0, 1, 250, 32_760, 65_525, 65_530, 65_535];
 /// Steps that break a chain, some of them good ones but for a few bits.
 const BREAKS: [u16; 10] = [0, 2, 3, 255, 256, 257, 32_768, 32_769, 65_534, 65_535];
 
-/// One to 24 records. One dump in eight is damaged.
 pub fn sessions(rng: &mut Rng) -> Vec<u8> {
-    let count = 1 + rng.below(24);
-    let mut sequence = *rng.pick(&STARTS);
+    let start = *rng.pick(&STARTS);
+    sessions_from(start, rng)
+}
+
+/// One to 24 records, with this sequence first. One dump in eight is damaged.
+pub fn sessions_from(start: u16, rng: &mut Rng) -> Vec<u8> {
+    let (count, mut sequence) = (1 + rng.below(24), start);
     let mut maker = Maker::new(rng, 0);
     for _ in 0..count {
         match maker.rng.below(8) {
