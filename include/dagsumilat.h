@@ -1,14 +1,14 @@
 /*
- * Dagsumilat: MRT dumps (RFC 6396) of route collectors, checked, gone through record by record, and cut to a time window without
- * the peers on a list; single records read and written. Proved in Rattle; docs/PROMISES.md leads to what is proved.
+ * Dagsumilat: MRT dumps (RFC 6396) of route collectors, checked, counted, gone through record by record, and cut to a time window
+ * without the peers on a list; single records read and written. Proved in Rattle; docs/PROMISES.md leads to what is proved.
  *
  * Link with libdagsumilat.a (`rt staticlib dagsumilat` writes it to target/staticlib).
  *
  * For every call:
  * - Any octets may be handed over. No call fails in any way but by the number in answer[0], allocates, keeps a pointer, or writes
- *   anywhere but to `answer` and, if it is not refused, to the octets of `out` that it reports.
+ *   anywhere but to `answer` and, if it is not refused, to `report` or to the octets of `out` that it reports.
  * - An array must have the stated number of elements. A pointer whose length is 0 is not followed, but must not be NULL.
- * - `out` and `answer` must not overlap with each other or with what is read.
+ * - `out`, `report` and `answer` must not overlap with each other or with what is read.
  * - Offsets count from the dump's first octet, or the record's where a call takes one record. Times are in microseconds since 1970,
  *   UTC; a Timestamp is in seconds.
  */
@@ -39,7 +39,8 @@ enum dagsumilat_fault {
     DAGSUMILAT_NO_TABLE = 12,          /* a RIB record before any peer table */
     DAGSUMILAT_PEER_INDEX = 13,        /* an entry that names no peer of the table in force */
     DAGSUMILAT_WINDOW = 14,            /* a window whose start is after its end */
-    DAGSUMILAT_ROOM = 15               /* what is to be written is longer than `out` */
+    DAGSUMILAT_ROOM = 15,              /* what is to be written is longer than `out` */
+    DAGSUMILAT_REPORT = 16             /* a number of the report passes 64 bits */
 };
 
 /* No table in force; no peer AS. */
@@ -53,6 +54,21 @@ enum dagsumilat_fault {
  * answer[2]  how many good records stand before
  */
 void dagsumilat_check(const uint8_t *dump, size_t dump_len, uint64_t answer[3]);
+
+/*
+ * Counts a dump by itself and adds what it counted to `report`. For a report over many dumps begin with 39 zeros and hand over one dump
+ * after another; their order means nothing, and a refused one adds nothing.
+ *
+ * report[0]  records
+ * report[1]  state changes: types 16 and 17, subtypes 0 and 5
+ * report[2]  breaks: type 12 records whose sequence is not that of the type 12 record before plus one, with 0 after 65,535. Records of
+ *            other types may stand between. The first in a dump has none before it and is no break.
+ * report[3 + 6 * (old - 1) + new - 1]  state changes from state `old` to state `new`, each 1 to 6
+ *
+ * answer[0]  0, or the dump's number, or 16 where any of the 39 sums passes 64 bits; `report` as it was on a refusal
+ * answer[1]  the dump's length, or where the dump's faulty record starts; 0 with 16
+ */
+void dagsumilat_report(const uint8_t *dump, size_t dump_len, uint64_t report[39], uint64_t answer[2]);
 
 /*
  * Cuts a dump: records from `from` up to but not including `to`, without the peers whose AS is among `mutes` (any order, repeats

@@ -3,7 +3,7 @@
 
 use crate::cutting::Ask;
 use crate::made::{self, Made};
-use crate::{plain, proved};
+use crate::{plain, plain_report, proved};
 use std::hint::black_box;
 use std::process::Command;
 use std::{env, io};
@@ -14,11 +14,12 @@ const SIZE: usize = 1_000_000;
 /// The first word of a run that is counted: `bench count INPUT CALL`.
 pub const WORD: &str = "count";
 
-const INPUTS: [&str; 2] = ["updates", "table"];
+const INPUTS: [&str; 4] = ["updates", "table", "changes", "routes"];
 
-/// Both programs' calls. Before them stands [`NOTHING`], whose instructions are those of starting
+/// Both programs' calls, the check first. Before them stands [`NOTHING`], whose instructions are those of starting
 /// and making the dump.
-const CALLS: [[&str; 2]; 2] = [["check", "plain-check"], ["cut", "plain-cut"]];
+const CALLS: [[&str; 2]; 3] =
+    [["check", "plain-check"], ["report", "plain-report"], ["cut", "plain-cut"]];
 const NOTHING: &str = "nothing";
 
 /// Makes the input, and the call once.
@@ -26,22 +27,26 @@ pub fn run(input: &str, call: &str) {
     let made = made(input);
     let ask = Ask::whole(&made);
     let dump = black_box(made.dump.as_slice());
-    let mut out = vec![1; dump.len()];
+    let (mut out, mut report) = (vec![1; dump.len()], [0; 39]);
     match call {
         "check" => _ = black_box(proved::check(dump)),
         "plain-check" => _ = black_box(plain::dump(dump)),
+        "report" => _ = black_box(proved::report(dump, &mut report)),
+        "plain-report" => _ = black_box(plain_report::add(dump, &mut report)),
         "cut" => _ = black_box(ask.proved(dump, &mut out)),
         "plain-cut" => _ = black_box(ask.plain(dump, &mut out)),
         NOTHING => {}
         _ => panic!("no such call: {call}"),
     }
-    black_box(&out);
+    black_box((&out, &report));
 }
 
 fn made(input: &str) -> Made {
     match input {
         "updates" => made::updates(SIZE),
         "table" => made::table(SIZE, 30),
+        "changes" => made::changes(SIZE),
+        "routes" => made::routes(SIZE),
         _ => panic!("no such input: {input}"),
     }
 }
@@ -61,12 +66,24 @@ pub fn print() {
 fn print_input(input: &str) -> io::Result<()> {
     let nothing = counted(input, NOTHING)?;
     println!("instructions, {input}, {SIZE} octets");
+    let mut check = None;
     for [rattle, plain] in CALLS {
         let [one, other] = [counted(input, rattle)? - nothing, counted(input, plain)? - nothing];
-        let ratio = one as f64 / other as f64;
-        println!("  {rattle}: Rattle {one}, plain {other}; Rattle / plain: {ratio:.2}");
+        println!(
+            "  {rattle}: Rattle {one}, plain {other}; Rattle / plain: {:.2}",
+            ratio(one, other)
+        );
+        // The check comes first.
+        let check = *check.get_or_insert(one);
+        if rattle == "report" {
+            println!("  report / check: {:.2}", ratio(one, check));
+        }
     }
     Ok(())
+}
+
+fn ratio(one: u64, other: u64) -> f64 {
+    one as f64 / other as f64
 }
 
 /// All instructions of a run of this program.

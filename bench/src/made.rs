@@ -236,3 +236,54 @@ pub fn table(size: usize, count: usize) -> Made {
     }
     Made { dump: out, numbers: numbers(&peers), seconds: ROUND..=ROUND }
 }
+
+/// State changes alone, of types 16 and 17.
+pub fn changes(size: usize) -> Made {
+    let mut random = Random::new(17);
+    let random = &mut random;
+    let peers = peers(random, 30);
+    let mut out = Vec::with_capacity(size + 1000);
+    while out.len() < size {
+        let peer = &peers[random.within(0, 29)];
+        let kind = if random.once_in(2) { 17 } else { 16 };
+        record(&mut out, ROUND, kind, if peer.wide_as { 5 } else { 0 }, |out| {
+            if kind == 17 {
+                out.extend((random.within(0, 999_999) as u32).to_be_bytes());
+            }
+            session(out, peer);
+            out.extend([0, random.within(1, 6) as u8, 0, random.within(1, 6) as u8]);
+        });
+    }
+    Made { dump: out, numbers: numbers(&peers), seconds: ROUND..=ROUND }
+}
+
+/// Records of type 12 alone. One sequence in a hundred does not follow the one before.
+pub fn routes(size: usize) -> Made {
+    let mut random = Random::new(12);
+    let random = &mut random;
+    let mut out = Vec::with_capacity(size + 1000);
+    let (mut sequence, mut numbers) = (0_u16, Vec::new());
+    while out.len() < size {
+        let number = random.within(1, 30) as u16;
+        route(random, &mut out, sequence, number);
+        numbers.push(number.into());
+        sequence = sequence.wrapping_add(if random.once_in(100) { 2 } else { 1 });
+    }
+    numbers.sort_unstable();
+    numbers.dedup();
+    Made { dump: out, numbers, seconds: ROUND..=ROUND }
+}
+
+/// A record of type 12 with this sequence and peer AS.
+fn route(random: &mut Random, out: &mut Vec<u8>, sequence: u16, number: u16) {
+    let (subtype, size) = if random.once_in(5) { (2, 16) } else { (1, 4) };
+    record(out, ROUND, 12, subtype, |out| {
+        out.extend([0, 0]);
+        out.extend(sequence.to_be_bytes());
+        random.octets(out, size);
+        out.extend([random.within(8, 8 * size) as u8, 1]);
+        random.octets(out, 4 + size);
+        out.extend(number.to_be_bytes());
+        counted(out, |out| attributes(random, out, size == 16));
+    });
+}

@@ -1,5 +1,5 @@
-//! Times the proved check and cut of a dump against the same in plain Rust, and counts instructions;
-//! or only compares their answers; or, given a folder, writes the dumps and their lists there, for other
+//! Times the proved check, report and cut of a dump against the same in plain Rust, and the report
+//! against the check, and counts instructions; or only compares their answers; or, given a folder, writes the dumps and their lists there, for other
 //! programs to be timed with.
 
 mod checking;
@@ -9,8 +9,10 @@ mod made;
 mod plain;
 mod plain_cut;
 mod plain_fault;
+mod plain_report;
 mod proved;
 mod random;
+mod reporting;
 mod small;
 mod timing;
 
@@ -19,7 +21,7 @@ use made::Made;
 use std::path::Path;
 use std::{env, fs, io};
 
-const USAGE: &str = "usage: bench [compare | MEGABYTES [FOLDER]]";
+const USAGE: &str = "usage: bench [compare | report | MEGABYTES [FOLDER]]";
 const MEGABYTE: usize = 1_000_000;
 
 /// A dump that stays in the cache shows what the code takes, a large one what memory adds.
@@ -29,6 +31,7 @@ const LARGE: usize = 100 * MEGABYTE;
 fn measure_updates(size: usize) {
     let made = made::updates(size);
     checking::measure("updates", &made.dump);
+    reporting::measure("updates", &made.dump);
     cutting::measure("updates, 3 of 30 peers muted", &made.dump, &Ask::whole(&made));
     cutting::measure("updates, the same, the middle half", &made.dump, &Ask::half(&made));
 }
@@ -36,7 +39,9 @@ fn measure_updates(size: usize) {
 fn measure_table(size: usize, peers: usize) {
     let made = made::table(size, peers);
     let ask = Ask::whole(&made);
-    checking::measure(&format!("table, {peers} peers"), &made.dump);
+    let name = format!("table, {peers} peers");
+    checking::measure(&name, &made.dump);
+    reporting::measure(&name, &made.dump);
     cutting::measure(
         &format!("table, {} of {peers} peers muted", ask.list.len()),
         &made.dump,
@@ -48,6 +53,7 @@ fn measure(size: usize) {
     measure_updates(size);
     measure_table(size, 30);
     measure_table(size, 20_000);
+    reporting::measure_counted(size);
 }
 
 /// A dump, and the AS numbers to be muted, one a line.
@@ -65,6 +71,7 @@ fn write_all(folder: &Path, size: usize) -> io::Result<()> {
 
 fn compare() {
     checking::compare();
+    reporting::compare();
     cutting::compare();
 }
 
@@ -87,6 +94,7 @@ fn main() {
         [] => compare_and_measure(LARGE),
         [counting::WORD, input, call] => counting::run(input, call),
         ["compare"] => compare(),
+        ["report"] => [SMALL, LARGE].into_iter().for_each(reporting::measure_all),
         [megabytes] => compare_and_measure(size(megabytes)),
         [megabytes, folder] => {
             write_all(Path::new(folder), size(megabytes)).expect("the folder takes no files");

@@ -16,6 +16,12 @@ pub struct Answer {
 
 /// All of a dump.
 pub fn dump(dump: &[u8]) -> Answer {
+    dump_with(dump, |_| {})
+}
+
+/// All of a dump, with something done for each good record.
+#[inline(always)]
+pub fn dump_with(dump: &[u8], mut each: impl FnMut(&Record)) -> Answer {
     let mut rest = dump;
     let mut table = None;
     let mut records = 0;
@@ -23,6 +29,7 @@ pub fn dump(dump: &[u8]) -> Answer {
         if !is_good(&record, &mut table) {
             break;
         }
+        each(&record);
         rest = after;
         records += 1;
     }
@@ -34,10 +41,10 @@ fn fault(rest: &[u8], table: Option<u16>) -> u64 {
     plain_fault::number(rest, table).expect("a record that is not good, and has no fault")
 }
 
-struct Record<'a> {
-    kind: u16,
-    subtype: u16,
-    message: &'a [u8],
+pub struct Record<'a> {
+    pub kind: u16,
+    pub subtype: u16,
+    pub message: &'a [u8],
 }
 
 /// The first record, if all of it is there, and what stands behind it.

@@ -42,6 +42,24 @@ pub fn dump(random: &mut Random) -> Vec<u8> {
     out
 }
 
+/// Up to 20 records of types 12, 16 and 17; sequences mostly go on, and often wrap.
+pub fn sessions(random: &mut Random) -> Vec<u8> {
+    let mut out = Vec::new();
+    let mut sequence = [0, 250, 65_530][random.within(0, 2)];
+    for _ in 0..random.within(1, 20) {
+        if random.once_in(2) {
+            bgp4mp(random, &mut out);
+            continue;
+        }
+        let start = out.len();
+        table_dump(random, &mut out);
+        out[start + 14..start + 16].copy_from_slice(&u16::to_be_bytes(sequence));
+        let step = if random.once_in(4) { random.within(0, 3) } else { 1 };
+        sequence = sequence.wrapping_add(step as u16);
+    }
+    out
+}
+
 fn unread(random: &mut Random, out: &mut Vec<u8>) {
     let kind = [11, 32, 48, 33, 49][random.within(0, 4)];
     let (subtype, size) = (random.within(0, 9), random.within(4, 12));

@@ -8,16 +8,16 @@ fn runs(octets: usize) -> usize {
     (150_000_000 / octets).clamp(7, 150)
 }
 
-/// Runs Rattle, plain and memcpy in turn, several times, and keeps the best seconds of each.
+/// Runs Rattle, plain and something known in turn, several times, and keeps the best seconds of each.
 pub fn best(
     octets: usize,
     mut rattle: impl FnMut(),
     mut plain: impl FnMut(),
-    mut copy: impl FnMut(),
+    mut known: impl FnMut(),
 ) -> [f64; 3] {
     let mut best = [Duration::MAX; 3];
     for _ in 0..runs(octets) {
-        let taken = [time(&mut rattle), time(&mut plain), time(&mut copy)];
+        let taken = [time(&mut rattle), time(&mut plain), time(&mut known)];
         for (best, taken) in best.iter_mut().zip(taken) {
             *best = taken.min(*best);
         }
@@ -31,12 +31,26 @@ fn time(run: &mut impl FnMut()) -> Duration {
     start.elapsed()
 }
 
+fn print_line(name: &str, seconds: f64, octets: usize) {
+    let speed = octets as f64 / 1e6 / seconds;
+    println!("  {name:<6} {speed:6.0} MB/s  {:8.3} ms", 1e3 * seconds);
+}
+
 /// Speeds of reading `octets`, and of copying `copied`.
 pub fn print(seconds: [f64; 3], octets: usize, copied: usize) {
     let [rattle, plain, copy] = seconds;
-    let speed = |octets: usize, seconds: f64| octets as f64 / 1e6 / seconds;
-    println!("  Rattle {:6.0} MB/s  {:8.3} ms", speed(octets, rattle), 1e3 * rattle);
-    println!("  plain  {:6.0} MB/s  {:8.3} ms", speed(octets, plain), 1e3 * plain);
-    println!("  memcpy {:6.0} MB/s  {:8.3} ms", speed(copied, copy), 1e3 * copy);
+    print_line("Rattle", rattle, octets);
+    print_line("plain", plain, octets);
+    print_line("memcpy", copy, copied);
     println!("  ratio of times, Rattle / plain: {:.2}", rattle / plain);
+}
+
+/// Speeds of the report and of the check of the same `octets`.
+pub fn print_report(seconds: [f64; 3], octets: usize) {
+    let [rattle, plain, check] = seconds;
+    print_line("Rattle", rattle, octets);
+    print_line("plain", plain, octets);
+    print_line("check", check, octets);
+    println!("  ratio of times, Rattle / plain: {:.2}", rattle / plain);
+    println!("  ratio of times, report / check: {:.2}", rattle / check);
 }

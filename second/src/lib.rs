@@ -1,4 +1,4 @@
-//! A second reader, writer and cutter of MRT dumps, made to be compared with
+//! A second reader, writer, cutter and counter of MRT dumps, made to be compared with
 //! another one. Records are plain values: they are read from a [`reader::Reader`],
 //! can be looked at, changed or filtered, and are put back by a
 //! [`writer::Writer`].
@@ -16,6 +16,8 @@ pub mod net;
 pub mod peer_table;
 pub mod reader;
 pub mod record;
+pub mod report;
+pub mod report_cases;
 pub mod rib;
 pub mod sample;
 pub mod table_dump;

@@ -4,6 +4,8 @@ use second::cut::cut;
 use second::cut_cases::Book;
 use second::dump::Dump;
 use second::listing::listing;
+use second::report;
+use second::report_cases;
 use second::sample;
 use second::vectors::Suite;
 use second::write_cases;
@@ -14,11 +16,13 @@ use std::str::FromStr;
 use std::{env, fs};
 
 const USAGE: &str = "usage: second list FILE..
+       second report FILE..
        second roundtrip FILE..
        second cut FILE START END [AS..] > OUT
        second vectors DIR
        second cuts DIR
        second writes DIR
+       second reports DIR
        second sample FILE";
 
 fn main() -> ExitCode {
@@ -38,13 +42,17 @@ fn run(arguments: &[String]) -> io::Result<bool> {
         return Err(io::Error::other(USAGE));
     };
     match (command.as_str(), operands) {
-        ("list", [_, ..]) => list(operands),
+        ("list", [_, ..]) => print_each(operands, listing),
+        ("report", [_, ..]) => print_each(operands, report::text),
         ("roundtrip", [_, ..]) => roundtrip(operands),
         ("vectors", [directory]) => Suite::generate().write_to(Path::new(directory)).map(|()| true),
         ("cut", [file, start, end, list @ ..]) => cut_file(file, start, end, list),
         ("cuts", [directory]) => Book::generate().write_to(Path::new(directory)).map(|()| true),
         ("writes", [directory]) => {
             write_cases::Book::generate().write_to(Path::new(directory)).map(|()| true)
+        }
+        ("reports", [directory]) => {
+            report_cases::Book::generate().write_to(Path::new(directory)).map(|()| true)
         }
         ("sample", [file]) => fs::write(file, sample::octets()).map(|()| true),
         _ => Err(io::Error::other(USAGE)),
@@ -55,13 +63,14 @@ fn read(file: &str) -> io::Result<Vec<u8>> {
     fs::read(file).map_err(|error| io::Error::new(error.kind(), format!("{file}: {error}")))
 }
 
-fn list(files: &[String]) -> io::Result<bool> {
+/// Prints a text of each file, under its name where there are more than one.
+fn print_each(files: &[String], text_of: fn(&[u8]) -> String) -> io::Result<bool> {
     let mut text = String::new();
     for file in files {
         if files.len() > 1 {
             text.push_str(&format!("{file}\n"));
         }
-        text.push_str(&listing(&read(file)?));
+        text.push_str(&text_of(&read(file)?));
     }
     io::stdout().write_all(text.as_bytes())?;
     Ok(true)

@@ -1,2 +1,6 @@
 pub mod Own
 pub mod Shown
+pub mod Adding
+pub mod Answers
+pub mod Sums
+pub mod Ends

@@ -1,6 +1,6 @@
 -- What a report heeds in a record: the states of a state change, the sequence of a record of type 12. Once in the record's own fields, once in
 -- what reading shows of it.
-use mathlib.Core.List.{List}
+use mathlib.Core.List.{List, [], _∷_}
 use Prim.Native.Nat.{ℕ, _≤_}
 use Rattle.form_spec.specs.Fmt.{find}
 use Rattle.form_spec.specs.Shape.{Layout, refuse, fields, unread, table, entries, frontOf, value}
@@ -57,3 +57,7 @@ abbrev pub InStates : Notice → Type 0
 InStates Plain = Unit
 InStates (Change o n) = (1 ≤ o) × (o ≤ 6) × (1 ≤ n) × (n ≤ 6)
 InStates (Sequence s) = Unit
+
+abbrev pub AllInStates : List Notice → Type 0
+AllInStates [] = Unit
+AllInStates (n ∷ ns) = InStates n × AllInStates ns

@@ -55,6 +55,17 @@ breaksBehind l (Plain ∷ ns) = breaksBehind l ns
 breaksBehind l (Change o n ∷ ns) = breaksBehind l ns
 breaksBehind l (Sequence s ∷ ns) = broken l s + breaksBehind (Was s) ns
 
+-- 1 where the first one does not follow l
+abbrev pub brokenFirst : Last → List Notice → ℕ
+brokenFirst l [] = 0
+brokenFirst l (Plain ∷ ns) = brokenFirst l ns
+brokenFirst l (Change o n ∷ ns) = brokenFirst l ns
+brokenFirst l (Sequence s ∷ ns) = broken l s
+
+-- 1 where the last one of the first records is not followed by the first one of the second; 0 where either has none
+abbrev pub seam : List Notice → List Notice → ℕ
+seam ms ns = brokenFirst (lastBehind Absent ms) ns
+
 -- ---- all of it
 
 abbrev pub joined : List (List ℕ) → List ℕ

@@ -57,6 +57,8 @@ module _ (longest : ℕ) (d : List ℕ) (at : ℕ) (st : St) where
   -- a record stands there, and the walk goes on behind it
   pub record Past (i : Item) (t : Table) : Type 0 where
     pub rec : Rec
+    pub left : List ℕ
+    pub read : readRec (layout longest) st 0 (drop at d) ≡ good rec left
     pub valid : Valid (layout longest) st rec
     pub tells : Tells t (next (layout longest) rec st)
     pub here : i .at ≡ at
@@ -103,6 +105,8 @@ module _ (longest : ℕ) (d : List ℕ) (oc : Octets d) (at : ℕ) (bound : at �
         let k : at + size r ≤ length d = good-fits (layout longest) st at d r q oc bound g in
         rw e (record {
           rec = r;
+          left = q;
+          read = a;
           valid = w .0;
           tells = after;
           here = refl;
@@ -140,6 +144,12 @@ module _ (longest : ℕ) (d : List ℕ) (oc : Octets d) (at : ℕ) (bound : at �
   -- where the step's answer is known
   pub goes-to : (o : Step) → stepAt longest t d at ≡ o → Goes longest d at st o
   goes-to o e = subst (Goes longest d at st) e goes
+
+-- what is shown of a record that a step found is that record
+pub shown-past : (longest : ℕ) (d : List ℕ) → Octets d → (at : ℕ) → at < length d → (t : Table) (st : St) → Tells t st → (i : Item) (u : Table) (g : Past longest d at st i u)
+    → Same longest (drop at d) (g .rec) (readOne longest t (drop at d))
+shown-past longest d oc at more t st tells i u g =
+    rw (g .read) at (one-record longest t st tells (drop at d) (octets-drop at d oc) (rw length-drop (omega arith)))
 
 -- a step goes on, and stays inside the dump, whatever table is told
 pub step-on : (longest : ℕ) (d : List ℕ) → Octets d → (at : ℕ) → at ≤ length d → (t : Table) (i : Item) (u : Table) → stepAt longest t d at ≡ Record i u

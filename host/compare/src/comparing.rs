@@ -7,10 +7,11 @@ use crate::expected;
 use crate::itself;
 use crate::making;
 use crate::reading;
+use crate::reporting;
 use crate::tally::Tally;
 use crate::telling::{same, Told};
 use crate::writing;
-use dagsumilat::calls::NONE;
+use dagsumilat::calls::{self, NONE};
 use second::dump::{Dump, Located};
 use second::record::Body;
 use second::vectors::rng::Rng;
@@ -19,6 +20,9 @@ use std::fmt;
 /// Dumps with a damaged field that the library alone reads, for each that the second program reads
 /// too: it takes far less time for them.
 const ALONE: usize = 12;
+
+/// So that the dumps made to be counted have nothing to do with the others of their seed.
+const SESSIONS: u64 = 0x5e55_1075;
 
 /// Both answers to a call, and the dump it was made with.
 #[derive(Debug)]
@@ -36,7 +40,7 @@ impl fmt::Display for Difference {
 }
 
 /// Makes a dump from a seed and compares all calls with it; then the writers with fields of their
-/// own.
+/// own, and the report with dumps of its own.
 pub fn compare_seed(seed: u64, desks: &mut Desks, tally: &mut Tally) -> Result<(), Difference> {
     let mut rng = Rng::seeded(seed);
     let made = making::any(&mut rng);
@@ -46,6 +50,9 @@ pub fn compare_seed(seed: u64, desks: &mut Desks, tally: &mut Tally) -> Result<(
         .map_err(|told| differs(&made.dump, told))?;
     writing::compare(&mut Rng::seeded(!seed), &mut desks.record, tally)
         .map_err(|told| differs(&[], told))?;
+    let mut apart = Rng::seeded(seed ^ SESSIONS);
+    reporting::compare_sessions(&calls::report, &mut apart, &mut desks.dump, tally)
+        .map_err(|(dump, told)| differs(&dump, told))?;
     let Some(field) = made.field else {
         return Ok(());
     };
@@ -75,6 +82,7 @@ pub fn compare_dump(dump: &[u8], rng: &mut Rng, desks: &mut Desks, tally: &mut T
     }
     desk.is_unchanged()?;
     cutting::compare(dump, &read, rng, desk, tally)?;
+    reporting::compare(&calls::report, dump, &read, rng, desk, tally)?;
     Ok(fault)
 }
 

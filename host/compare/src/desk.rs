@@ -9,6 +9,9 @@ use second::vectors::rng::Rng;
 /// A longer dump is not held against its copy after every call, but by [`Desk::is_unchanged`].
 const SHORT: usize = 4096;
 
+/// The call for a report, or one in its place.
+pub type ReportCall<'a> = &'a dyn Fn(&[u8], &mut [u64; 39], &mut [u64; 2]);
+
 /// A window and a list.
 #[derive(Clone, Debug, PartialEq, Eq)]
 pub struct Ask {
@@ -22,6 +25,7 @@ pub struct Desk {
     dump: Loan<u8>,
     mutes: Loan<u32>,
     out: Loan<u8>,
+    report: Loan<u64>,
     answer: Loan<u64>,
     spots: Spots,
     copy: Vec<u8>,
@@ -79,6 +83,25 @@ impl Desk {
         self.call("read", |dump, answer| {
             calls::read(dump.get(at..).unwrap_or_default(), table, answer)
         })
+    }
+
+    /// The answer, and the lent report afterwards.
+    pub fn report(
+        &mut self,
+        call: ReportCall,
+        lent: &[u64; 39],
+        spot: Spot,
+    ) -> Told<([u64; 2], [u64; 39])> {
+        self.report.lay(lent, spot);
+        self.answer.clear(2, self.spots.answer);
+        let (report, answer) = (words(self.report.lent_mut()), words(self.answer.lent_mut()));
+        call(self.dump.lent(), report, answer);
+        let after = (*answer, *report);
+        self.is_fenced("report")?;
+        if !self.report.is_fenced() {
+            return Err("report wrote past the report".into());
+        }
+        Ok(after)
     }
 
     /// The answer; what was written is [`Desk::written`].

@@ -13,6 +13,7 @@ pub mod itself;
 pub mod lending;
 pub mod making;
 pub mod reading;
+pub mod reporting;
 pub mod running;
 pub mod tally;
 pub mod telling;

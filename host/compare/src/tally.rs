@@ -1,6 +1,7 @@
 //! What was compared, counted.
 
 use crate::making::{Field, Kind, Writer};
+use second::report::{Report, NUMBERS};
 use std::fmt;
 
 /// How often each turn of a writer slipped together with each other one.
@@ -55,6 +56,17 @@ pub struct Tally {
     pub twice: u64,
     /// Cuts of two dumps laid end to end.
     pub joined: u64,
+    /// Dumps added to a lent report, by the answer.
+    pub reports: [u64; 17],
+    /// What all accepted dumps that were counted count up to, as a report's words.
+    pub counted: [u64; NUMBERS],
+    /// Steps of a sequence from 65,535 to 0, and those that a break is not.
+    pub wraps: u64,
+    pub goes_on: u64,
+    /// Two dumps added one after the other.
+    pub sums: u64,
+    /// Two dumps counted as one: no chain over the seam, one that goes on there, one that breaks.
+    pub seams: [u64; 3],
 }
 
 impl Default for Tally {
@@ -76,6 +88,12 @@ impl Default for Tally {
             changed: 0,
             twice: 0,
             joined: 0,
+            reports: [0; 17],
+            counted: [0; NUMBERS],
+            wraps: 0,
+            goes_on: 0,
+            sums: 0,
+            seams: [0; 3],
         }
     }
 }
@@ -95,6 +113,13 @@ impl Tally {
         self.fields.iter().fold([0; 2], |all, one| [all[0] + one[0], all[1] + one[1]])
     }
 
+    /// What an accepted dump counts up to, and its steps from sequence to sequence.
+    pub fn counted(&mut self, own: &Report, steps: &[[u16; 2]]) {
+        self.counted.iter_mut().zip(own.numbers()).for_each(|(all, one)| *all += one);
+        self.wraps += steps.iter().filter(|step| **step == [65_535, 0]).count() as u64;
+        self.goes_on += steps.len() as u64 - own.breaks;
+    }
+
     pub fn add(&mut self, other: &Tally) {
         fn all<const N: usize>(to: &mut [u64; N], from: &[u64; N]) {
             to.iter_mut().zip(from).for_each(|(to, from)| *to += from);
@@ -104,6 +129,9 @@ impl Tally {
         all(&mut self.read, &other.read);
         all(&mut self.back, &other.back);
         all(&mut self.cuts, &other.cuts);
+        all(&mut self.reports, &other.reports);
+        all(&mut self.counted, &other.counted);
+        all(&mut self.seams, &other.seams);
         self.written.iter_mut().zip(&other.written).for_each(|(to, from)| all(to, from));
         for (to, from) in self.slips.iter_mut().zip(&other.slips) {
             to.0.iter_mut().zip(&from.0).for_each(|(to, from)| all(to, from));
@@ -117,6 +145,9 @@ impl Tally {
         self.changed += other.changed;
         self.twice += other.twice;
         self.joined += other.joined;
+        self.wraps += other.wraps;
+        self.goes_on += other.goes_on;
+        self.sums += other.sums;
     }
 }
 
@@ -143,6 +174,18 @@ impl fmt::Display for Tally {
         }
         writeln!(f, "cuts by answer, from 0 on: {:?}", self.cuts)?;
         writeln!(f, "{} cuts leave something else than all or nothing", self.changed)?;
-        write!(f, "{} cuts of cuts, {} cuts of two dumps end to end", self.twice, self.joined)
+        writeln!(f, "{} cuts of cuts, {} cuts of two dumps end to end", self.twice, self.joined)?;
+        writeln!(f, "reports by answer, from 0 on: {:?}", self.reports)?;
+        let [records, changes, breaks, cells @ ..] = self.counted;
+        writeln!(f, "  {records} records, {changes} state changes, {breaks} breaks")?;
+        writeln!(f, "  {} steps go on, {} of them from 65,535 to 0", self.goes_on, self.wraps)?;
+        writeln!(f, "  cells, from 1 to 1 on: {cells:?}")?;
+        let [none, goes_on, breaks] = self.seams;
+        writeln!(f, "{} sums of two reports", self.sums)?;
+        writeln!(
+            f,
+            "both dumps as one: {goes_on} chains go on at the seam, {breaks} break there,"
+        )?;
+        write!(f, "  and {none} times there is none over it")
     }
 }

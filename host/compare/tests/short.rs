@@ -5,12 +5,14 @@ use compare::cutting::compare_room;
 use compare::desk::{Ask, Spots};
 use compare::desks::Desks;
 use compare::making::Writer;
+use compare::reporting::compare_lent;
 use compare::running::compare_seeds;
 use compare::tally::Tally;
 use compare::writing::{self, Flag};
+use dagsumilat::calls;
 use second::vectors::rng::Rng;
 use second::vectors::Suite;
-use second::{cut_cases, write_cases};
+use second::{cut_cases, report_cases, write_cases};
 use std::env;
 
 /// How many dumps are made, if COMPARE_DUMPS does not say it. With fewer than some 4,000 not every
@@ -56,6 +58,22 @@ fn is_telling(tally: &Tally) {
         assert!(fewest * 1000 > tally.dumps, "{writer:?}, two fields rarely at fault:\n{tally}");
     }
     assert!(tally.records > tally.dumps && tally.items > tally.dumps, "few records:\n{tally}");
+    reports_are_telling(tally);
+}
+
+/// Every answer that a report has, every cell, chains that wrap and break, and every sort of seam.
+fn reports_are_telling(tally: &Tally) {
+    for (answer, count) in tally.reports.iter().enumerate() {
+        let is_told = !matches!(answer, 14 | 15);
+        assert_eq!(*count != 0, is_told, "a report answers {answer} {count} times:\n{tally}");
+    }
+    let [good, past] = [tally.reports[0], tally.reports[16]];
+    assert!(good * 3 > tally.dumps && past * 4 > tally.dumps, "few of one answer:\n{tally}");
+    assert!(!tally.counted.contains(&0), "a number of the report that stays 0:\n{tally}");
+    assert!(tally.counted[2] > tally.dumps && tally.goes_on > tally.dumps, "few steps:\n{tally}");
+    assert!(tally.wraps * 10 > tally.dumps, "few sequences wrap:\n{tally}");
+    assert!(tally.sums >= tally.dumps, "few sums:\n{tally}");
+    assert!(tally.seams.iter().all(|count| count * 40 > tally.dumps), "few seams:\n{tally}");
 }
 
 /// Every number that the writer can answer, and no other.
@@ -113,4 +131,16 @@ fn the_book_of_writers_shows_no_difference() {
     for writer in Writer::ALL {
         answers_are_met(writer, &tally);
     }
+}
+
+/// The second program's book of reports, each made for one number or one rule.
+#[test]
+fn the_book_of_reports_shows_no_difference() {
+    let (mut desks, mut tally, mut rng) = (Desks::default(), Tally::default(), Rng::seeded(4));
+    for (name, case) in report_cases::Book::generate().iter() {
+        compare_lent(&calls::report, &case.dump, &case.lent, &mut rng, &mut desks.dump)
+            .and_then(|_| compare_dump(&case.dump, &mut rng, &mut desks, &mut tally))
+            .unwrap_or_else(|told| panic!("{name}: {told}"));
+    }
+    assert!(!tally.counted.contains(&0) && tally.wraps > 0, "{tally}");
 }

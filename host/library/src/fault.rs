@@ -21,11 +21,12 @@ pub enum Fault {
     PeerIndex = 13,
     Window = 14,
     Room = 15,
+    Report = 16,
 }
 
 impl Fault {
     /// All of them, by rising number.
-    pub const ALL: [Fault; 15] = [
+    pub const ALL: [Fault; 16] = [
         Fault::HeaderIncomplete,
         Fault::LengthPastEnd,
         Fault::Type,
@@ -41,6 +42,7 @@ impl Fault {
         Fault::PeerIndex,
         Fault::Window,
         Fault::Room,
+        Fault::Report,
     ];
 
     /// The fault of a number; none for 0 and for numbers that no fault has.
@@ -50,7 +52,7 @@ impl Fault {
     ///
     /// assert_eq!(Fault::of_number(9), Some(Fault::State));
     /// assert_eq!(Fault::of_number(0), None);
-    /// assert_eq!(Fault::of_number(16), None);
+    /// assert_eq!(Fault::of_number(17), None);
     /// ```
     pub fn of_number(number: u64) -> Option<Fault> {
         let index = usize::try_from(number).ok()?.checked_sub(1)?;
@@ -59,7 +61,7 @@ impl Fault {
 
     /// Reads the first number of an answer: 0 refuses nothing.
     pub(crate) fn of_answer(number: u64) -> Option<Fault> {
-        (number != 0).then(|| Fault::of_number(number).expect("the calls answer 0 to 15"))
+        (number != 0).then(|| Fault::of_number(number).expect("the calls answer 0 to 16"))
     }
 
     pub fn number(self) -> u8 {
@@ -83,6 +85,7 @@ impl Fault {
             Fault::PeerIndex => "peer index",
             Fault::Window => "backward window",
             Fault::Room => "no room",
+            Fault::Report => "report too large",
         }
     }
 
@@ -108,6 +111,7 @@ impl Fault {
             Fault::PeerIndex => "a RIB entry names a peer that the table in force does not have",
             Fault::Window => "the window's start is after its end",
             Fault::Room => "what is to be written is longer than the room for it",
+            Fault::Report => "a number of the report passes 64 bits",
         }
     }
 }

@@ -1,5 +1,5 @@
-//! MRT dumps of route collectors (RFC 6396): checked, gone through record by record, and cut to a
-//! window of time without the peers that are to be muted; single records read and written.
+//! MRT dumps of route collectors (RFC 6396): checked, counted, gone through record by record, and
+//! cut to a window of time without the peers that are to be muted; single records read and written.
 //!
 //! These are safe functions over a library proved in Rattle (include/dagsumilat.h). Any octets may
 //! be handed over. Offsets count from the dump's first octet; times are microseconds since 1970.
@@ -28,6 +28,7 @@ mod items;
 mod reading;
 mod record;
 mod records;
+mod report;
 mod writing;
 
 pub use fault::{Fault, Refusal};
@@ -38,6 +39,7 @@ pub use items::{Entries, Entry, Peer, Peers};
 pub use reading::{read, Read};
 pub use record::{Kind, Record};
 pub use records::{records, Records};
+pub use report::Report;
 
 /// What a check found.
 #[derive(Clone, Copy, Debug, PartialEq, Eq)]

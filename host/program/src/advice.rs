@@ -20,6 +20,18 @@ pub fn dump_refused(name: &str, refusal: Refusal, records: u64) -> String {
     )
 }
 
+/// The words for a dump that is not in the report. A sum past 64 bits is not the dump's own fault.
+pub fn report_refused(name: &str, refusal: Refusal, records: u64) -> String {
+    match refusal.fault {
+        Fault::Report => {
+            let (number, words) = (refusal.fault.number(), refusal.fault.words());
+            let Hint { cause, remedy, .. } = hint(refusal.fault);
+            format!("{name}: fault {number}: {words}\n  Often: {cause}\n  To do: {remedy}")
+        }
+        _ => dump_refused(name, refusal, records),
+    }
+}
+
 /// The words for a cut that cannot be ordered.
 pub fn order_refused(fault: Fault, from: &str, to: &str) -> String {
     let (number, words) = (fault.number(), fault.words());
@@ -127,6 +139,11 @@ const HINTS: [Hint; Fault::ALL.len()] = [
         cause: "an error in this program: it always has as much room as the dump is long.",
         remedy: "report it, with the order that was given.",
     },
+    Hint {
+        fault: Fault::Report,
+        cause: "an error in this program: it counts from zero, and no files hold so many records.",
+        remedy: "report it, with the order that was given; fewer recordings at once may do.",
+    },
 ];
 
 #[cfg(test)]
@@ -148,6 +165,16 @@ mod tests {
     #[test]
     fn every_fault_has_its_hint() {
         assert!(Fault::ALL.into_iter().all(|fault| hint(fault).fault == fault));
+    }
+
+    #[test]
+    fn a_report_too_large_has_no_place_in_the_dump() {
+        let refusal = Refusal { fault: Fault::Report, place: 0 };
+        let words = report_refused("a.mrt", refusal, 12);
+        assert!(words.starts_with("a.mrt: fault 16: a number of the report"), "{words}");
+        assert!(!words.contains("octet"), "{words}");
+        let refusal = Refusal { fault: Fault::State, place: 32 };
+        assert_eq!(report_refused("a", refusal, 1), dump_refused("a", refusal, 1));
     }
 
     #[test]

@@ -18,6 +18,7 @@ pub enum Request {
     List(Reading),
     Check(Reading),
     Peers(Reading),
+    Report(ReportOrder),
     Cut(Box<CutOrder>),
 }
 
@@ -26,6 +27,13 @@ pub enum Request {
 pub struct Reading {
     pub source: Source,
     pub progress: bool,
+}
+
+/// Recordings to be counted together; as a table, or as lines for a program.
+#[derive(Debug, PartialEq, Eq)]
+pub struct ReportOrder {
+    pub readings: Vec<Reading>,
+    pub table: bool,
 }
 
 #[derive(Debug, PartialEq, Eq)]
@@ -55,6 +63,7 @@ pub fn parse(words: impl IntoIterator<Item = OsString>) -> Result<Request, Misus
         Some("list") => ("list", help::LIST, Request::List),
         Some("check") => ("check", help::CHECK, Request::Check),
         Some("peers") => ("peers", help::PEERS, Request::Peers),
+        Some("report") => return report(&mut words).map_err(|error| (error, Some("report"))),
         Some("cut") => return cut(&mut words).map_err(|error| (error, Some("cut"))),
         _ => return Err((format!("no such command: {}", command.display()), None)),
     };
@@ -96,9 +105,44 @@ fn read_only(
     Ok(wrap(Reading { source: source(file)?, progress }))
 }
 
+const WHICH_FILE: &str = "which FILE? (- is standard input)";
+
 fn source(file: Option<OsString>) -> Result<Source, String> {
-    let file = file.ok_or("which FILE? (- is standard input)")?;
+    let file = file.ok_or(WHICH_FILE)?;
     Ok(Source::of_word(&file))
+}
+
+/// The command that takes many FILEs.
+fn report(words: &mut Words) -> Result<Request, String> {
+    let (mut sources, mut table, mut progress) = (Vec::new(), false, true);
+    let mut last = String::new();
+    while let Some(word) = words.next(&last)? {
+        match word {
+            Word::Operand(operand) => sources.push(Source::of_word(&operand)),
+            Word::Option(option) => {
+                match option.as_str() {
+                    "-h" | "--help" => return Ok(Request::Text(help::REPORT)),
+                    "--table" => table = true,
+                    "--no-progress" => progress = false,
+                    _ => return Err(unknown(&option)),
+                }
+                last = option;
+            }
+        }
+    }
+    refuse_sources(&sources)?;
+    let readings = sources.into_iter().map(|source| Reading { source, progress }).collect();
+    Ok(Request::Report(ReportOrder { readings, table }))
+}
+
+/// Standard input has nothing left for a second time.
+fn refuse_sources(sources: &[Source]) -> Result<(), String> {
+    let standard = sources.iter().filter(|source| **source == Source::Standard).count();
+    match (sources.len(), standard) {
+        (0, _) => Err(WHICH_FILE.to_string()),
+        (_, 0 | 1) => Ok(()),
+        _ => Err("standard input (-) more than once".to_string()),
+    }
 }
 
 /// What is said twice may be said in two ways.
@@ -240,6 +284,26 @@ mod tests {
     }
 
     #[test]
+    fn a_report() {
+        let reading = |source| Reading { source, progress: true };
+        let readings = vec![
+            reading(Source::File("a".into())),
+            reading(Source::Standard),
+            reading(Source::File("a".into())),
+        ];
+        assert_eq!(
+            parsed("report a - a"),
+            Ok(Request::Report(ReportOrder { readings, table: false }))
+        );
+        let readings = vec![Reading { source: Source::File("-x".into()), progress: false }];
+        assert_eq!(
+            parsed("report --table --no-progress -- -x"),
+            Ok(Request::Report(ReportOrder { readings, table: true }))
+        );
+        assert_eq!(parsed("report --help"), Ok(Request::Text(help::REPORT)));
+    }
+
+    #[test]
     fn a_cut() {
         let order = cut_of("cut a.mrt --from=5.5 --to 9.0 --mute AS1.1 --mute=7 -oclip -fq");
         assert_eq!(order.window, Window { from: 5_500_000, to: 9_000_000 });
@@ -263,6 +327,11 @@ mod tests {
         assert_misuse("list a --from=1", "no such option: --from");
         assert_misuse("list a --no-progress=1", "--no-progress takes no value");
         assert_misuse("--mute", "no such option");
+        assert_misuse("report", "which FILE");
+        assert_misuse("report --table", "which FILE");
+        assert_misuse("report a --tabel", "no such option: --tabel");
+        assert_misuse("report a --table=1", "--table takes no value");
+        assert_misuse("report - a -", "standard input (-) more than once");
         assert_misuse("cut --from 1 --to 2 -o b", "which FILE");
         assert_misuse("cut a --to 2 -o b", "--from TIME is missing");
         assert_misuse("cut a --from 1 -o b", "--to TIME is missing");

@@ -5,12 +5,14 @@ pub const VERSION: &str = concat!("dagsumilat ", env!("CARGO_PKG_VERSION"), "\n"
 pub const PROGRAM: &str = "\
 Usage: dagsumilat COMMAND FILE [OPTION]...
 
-Checks, lists and cuts MRT dumps (RFC 6396) of route collectors.
+Checks, lists, counts and cuts MRT dumps (RFC 6396) of route collectors.
 
 Commands:
   list FILE    one line for each record, then the first fault
   check FILE   says whether the dump is good, or what is wrong and where
   peers FILE   the peer AS numbers in the dump, with counts
+  report FILE...
+               records, state changes and breaks over many dumps
   cut FILE --from TIME --to TIME [--mute AS]... -o OUT
                keeps a window of time and leaves out the peers of muted AS numbers
   COMMAND --help says more.
@@ -55,6 +57,28 @@ by number, with how many peers (over all tables), RIB entries and records it has
 has a fault, what stands before it is shown, and the fault is told.
 
   --no-progress  no bar for a large file
+";
+
+pub const REPORT: &str = "\
+Usage: dagsumilat report [--table] FILE...
+
+Counts each FILE by itself and prints the sums:
+  records=COUNT
+  changes=COUNT     state changes: types 16 and 17, subtypes 0 and 5
+  breaks=COUNT      type 12 records whose sequence is not the previous one's plus one (0 follows
+                    65535); the first of a dump has no previous
+  change.O.N=COUNT  state changes from state O to state N, where there are any
+
+States are 1 Idle, 2 Connect, 3 Active, 4 OpenSent, 5 OpenConfirm and 6 Established. A dump
+with a fault adds nothing: the fault is told, the others are counted, and the exit status is 1.
+So it is with a FILE that cannot be read; the exit status is then 2.
+
+  --table        a table instead, old states in rows and new ones in columns, with sums
+  --no-progress  no bar for a large file
+
+Example:
+  A day's recordings in one table:
+    dagsumilat report --table updates.20260301.*.bz2
 ";
 
 pub const CUT: &str = "\
@@ -105,7 +129,7 @@ mod tests {
     #[test]
     fn the_manual_has_every_option_of_the_help() {
         let manual = MANUAL.replace("\\-", "-");
-        for text in [PROGRAM, LIST, CHECK, PEERS, CUT] {
+        for text in [PROGRAM, LIST, CHECK, PEERS, REPORT, CUT] {
             assert!(options(text).count() > 0);
             for option in options(text) {
                 assert!(manual.contains(option), "{option} is not in the manual");

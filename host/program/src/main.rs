@@ -1,4 +1,4 @@
-//! Checks, lists and cuts MRT dumps. A thin shell around the library: it reads files, calls, and
+//! Checks, lists, counts and cuts MRT dumps. A thin shell around the library: it reads files, calls, and
 //! tells people what came of it.
 
 #![forbid(unsafe_code)]
@@ -12,9 +12,11 @@ mod help;
 mod input;
 mod moment;
 mod mutes;
+mod outcome;
 mod output;
 mod progress;
-mod report;
+mod session_report;
+mod session_table;
 mod show;
 mod stop;
 mod tally;
@@ -46,6 +48,7 @@ fn run() -> Result<(), Stop> {
         Request::List(reading) => show::list(&reading),
         Request::Check(reading) => show::check(&reading),
         Request::Peers(reading) => show::peers(&reading),
+        Request::Report(order) => session_report::report(&order),
         Request::Cut(order) => cut::cut(&order),
     }
 }

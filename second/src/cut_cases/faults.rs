@@ -15,7 +15,7 @@ pub fn add(book: &mut Book) {
 }
 
 /// All are from AS 10 where they tell a peer at all, and at second 5.
-fn one_of_each() -> Vec<(u8, Vec<u8>)> {
+pub fn one_of_each() -> Vec<(u8, Vec<u8>)> {
     let change = change(17, 5, 10).at(5);
     let keepalive = keepalive(16, 6, V4).set_n("peer-as", 10).at(5);
     let untiled = [Route(0, &[0x40, 1, 1])];

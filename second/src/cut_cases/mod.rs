@@ -1,7 +1,7 @@
 //! Cuts made up for comparing two programs.
 
 mod examples;
-mod faults;
+pub(crate) mod faults;
 mod large;
 mod micros;
 mod numbers;

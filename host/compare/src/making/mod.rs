@@ -8,11 +8,15 @@ mod given;
 mod layout;
 mod long;
 mod records;
+mod reports;
+mod sessions;
 
 pub use asks::{ask, Known};
 pub use fields::Field;
 pub use given::{given, room, MadeGiven, Writer};
 pub use records::Maker;
+pub use reports::reports;
+pub use sessions::{sessions, sessions_from};
 
 use second::cut_cases;
 use second::vectors::rng::Rng;

@@ -56,7 +56,7 @@ impl<'a> Maker<'a> {
         self.out
     }
 
-    fn any(&mut self) {
+    pub fn any(&mut self) {
         let (code, subtypes) = *self.rng.pick(&LAYOUTS);
         let subtype = *self.rng.pick(subtypes);
         let tables_first = self.peers.is_none() && !self.slip();
@@ -283,6 +283,19 @@ impl<'a> Maker<'a> {
             maker.number(false);
             maker.attributes();
         });
+    }
+
+    /// A type 12 record with this sequence; without slips, so that it is all there.
+    pub fn route(&mut self, sequence: u16) {
+        let (start, subtype) = (self.out.len(), 1 + self.rng.below(2) as u16);
+        self.table_dump(subtype);
+        self.out[start + 14..start + 16].copy_from_slice(&sequence.to_be_bytes());
+    }
+
+    /// A state change of either type and either subtype.
+    pub fn change(&mut self) {
+        let (code, subtype) = (*self.rng.pick(&[16, 17]), *self.rng.pick(&[0, 5]));
+        self.bgp4mp(code, subtype);
     }
 
     fn bgp4mp(&mut self, code: u16, subtype: u16) {

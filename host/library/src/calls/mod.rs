@@ -2,8 +2,8 @@
 //! this crate stands here and in [`writers`].
 //!
 //! What makes each call sound: a slice's pointer is never null and has as many elements behind it
-//! as its length says; `out` and the answer are lent for writing, so that they overlap with
-//! nothing; and the calls promise to write nowhere else, keep no pointer and accept any octets and
+//! as its length says; `out`, the report and the answer are lent for writing, so that they overlap
+//! with nothing; and the calls promise to write nowhere else, keep no pointer and accept any octets and
 //! numbers.
 //!
 //! The answer is lent, as in C, so that the comparison can put it between walls.
@@ -15,6 +15,12 @@ pub const NONE: u64 = u64::MAX;
 
 extern "C" {
     fn dagsumilat_check(dump: *const u8, dump_len: usize, answer: *mut [u64; 3]);
+    fn dagsumilat_report(
+        dump: *const u8,
+        dump_len: usize,
+        report: *mut [u64; 39],
+        answer: *mut [u64; 2],
+    );
     fn dagsumilat_cut(
         dump: *const u8,
         dump_len: usize,
@@ -41,6 +47,11 @@ extern "C" {
 pub fn check(dump: &[u8], answer: &mut [u64; 3]) {
     // SAFETY: see the top of this file.
     unsafe { dagsumilat_check(dump.as_ptr(), dump.len(), answer) }
+}
+
+pub fn report(dump: &[u8], report: &mut [u64; 39], answer: &mut [u64; 2]) {
+    // SAFETY: see the top of this file.
+    unsafe { dagsumilat_report(dump.as_ptr(), dump.len(), report, answer) }
 }
 
 pub fn cut(dump: &[u8], from: u64, to: u64, mutes: &[u32], out: &mut [u8], answer: &mut [u64; 3]) {

@@ -50,6 +50,17 @@ fn packed_dumps_are_read_as_plain_ones() {
 }
 
 #[test]
+fn packed_and_plain_dumps_in_one_report() {
+    let folder = Folder::new("report-packed");
+    let files = PROGRAMS.map(|(program, extension)| {
+        folder.file(&format!("dump.{extension}"), &pack(&folder, program, &sample()))
+    });
+    let plain = folder.file("dump.mrt", &sample());
+    let run = run(&["report", &files[0], &plain, &files[1]]).ended(0);
+    assert!(run.out_text().starts_with("records=147\nchanges=33\nbreaks=0\nchange.1.2=6\n"));
+}
+
+#[test]
 fn parts_of_an_archive_are_joined() {
     let folder = Folder::new("joined");
     for (program, extension) in PROGRAMS {

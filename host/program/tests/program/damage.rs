@@ -36,6 +36,12 @@ fn assert_listed(file: &str, octets: &[u8], status: i32) {
     assert_eq!(listed.out_text(), second::listing::listing(octets));
 }
 
+fn assert_reported(file: &str, octets: &[u8], status: i32) {
+    let answer = second::report::add(octets, &second::report::Report::default());
+    let reported = run(&["report", file]).ended(status);
+    assert_eq!(reported.out_text(), second::report::lines(&answer.report));
+}
+
 /// A clip of all times, or the fault told and no file.
 fn assert_cut(folder: &Folder, file: &str, answer: &Answer, status: i32) {
     let out = folder.word("clip");
@@ -63,6 +69,7 @@ fn damaged_files() {
         let file = folder.file("dump", &octets);
         let status = i32::from(answer.fault != 0);
         assert_listed(&file, &octets, status);
+        assert_reported(&file, &octets, status);
         assert_cut(&folder, &file, &answer, status);
         faults.insert(answer.fault);
     }

@@ -48,7 +48,11 @@ pub fn session(peer_as: u16) -> Vec<u8> {
 
 /// A state change, from 3 to 4.
 pub fn change(time: u32, peer_as: u16) -> Vec<u8> {
-    record(time, 16, 0, &[session(peer_as), vec![0, 3, 0, 4]].concat())
+    change_of(time, peer_as, 3, 4)
+}
+
+pub fn change_of(time: u32, peer_as: u16, old: u8, new: u8) -> Vec<u8> {
+    record(time, 16, 0, &[session(peer_as), vec![0, old, 0, new]].concat())
 }
 
 /// A BGP message of 19 octets whose length field says `length`.

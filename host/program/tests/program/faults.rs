@@ -48,6 +48,8 @@ fn assert_told(folder: &Folder, file: &str, number: usize) {
     assert_eq!(last, format!("fault={number} place={place}"));
     let peers = run(&["peers", file]).ended(1).told(&words);
     assert!(peers.out_text().contains("64496"), "what stands before is counted");
+    let report = run(&["report", file]).ended(1).told(&words).told("To do: ");
+    assert_eq!(report.out_text(), "records=0\nchanges=0\nbreaks=0\n", "nothing of it is counted");
     let out = folder.word("clip");
     let cut = run(&["cut", file, "--from", "0", "--to", "9.0", "-o", &out]).ended(1).told(&words);
     assert!(cut.out.is_empty());

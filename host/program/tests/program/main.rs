@@ -7,6 +7,7 @@ mod damage;
 mod dumps;
 mod faults;
 mod files;
+mod reports;
 mod run;
 mod shown;
 mod usage;

@@ -91,7 +91,7 @@ fn who_has_read_enough_is_not_bothered() {
 #[test]
 fn a_full_disk_is_told() {
     let full = || std::fs::File::options().write(true).open("/dev/full").unwrap();
-    for name in ["list", "check", "peers"] {
+    for name in ["list", "check", "peers", "report"] {
         let ended = command(&[name, SAMPLE]).stdout(full()).output().unwrap();
         let words = String::from_utf8(ended.stderr).unwrap();
         assert_eq!(ended.status.code(), Some(2), "{name}: {words}");

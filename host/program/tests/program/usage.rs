@@ -7,7 +7,7 @@ use crate::run::{run, Folder};
 fn help_and_version() {
     assert!(run(&["--help"]).ended(0).out_text().contains("Commands:"));
     assert!(run(&["--version"]).ended(0).out_text().starts_with("dagsumilat "));
-    for name in ["list", "check", "peers", "cut"] {
+    for name in ["list", "check", "peers", "report", "cut"] {
         let usage = format!("Usage: dagsumilat {name} ");
         assert!(run(&[name, "--help"]).ended(0).out_text().starts_with(&usage));
     }
@@ -17,11 +17,14 @@ fn help_and_version() {
 
 #[test]
 fn wrong_usage_is_status_2() {
-    let wrong: [(&[&str], &str); 6] = [
+    let wrong: [(&[&str], &str); 9] = [
         (&[], "which command?"),
         (&["slice", SAMPLE], "no such command: slice"),
         (&["list"], "which FILE?"),
         (&["list", SAMPLE, "--frm"], "no such option: --frm"),
+        (&["report"], "which FILE?"),
+        (&["report", SAMPLE, "--tabel"], "no such option: --tabel"),
+        (&["report", "-", SAMPLE, "-"], "standard input (-) more than once"),
         (&["cut", SAMPLE, "--to", "1", "-o", "x"], "--from TIME is missing"),
         (&["cut", SAMPLE, "--from", "2026-02-30T00:00:00Z"], "has day 30"),
     ];
@@ -34,7 +37,7 @@ fn wrong_usage_is_status_2() {
 #[test]
 fn input_that_cannot_be_read_is_status_2() {
     let folder = Folder::new("unreadable");
-    for name in ["list", "check", "peers"] {
+    for name in ["list", "check", "peers", "report"] {
         run(&[name, &folder.word("none")]).ended(2).told("cannot read").told("none");
         run(&[name, &folder.word("")]).ended(2).told("cannot read");
     }
