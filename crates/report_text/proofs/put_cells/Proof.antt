@@ -59,7 +59,7 @@ loop-again c =
     let k : tie.At-loop Inv-loop μ-loop = search needs in
     let i = k .loop .inv .1 in
     let e = p .put-cell .ensures in
-    (search needs, turn i (long (start k)) (t .loop-test .taken) (e .0) (e .1) (omega (arith, i .few)))
+    (search needs, turn i (long (start k)) (omega (arith, t .loop-test .taken)) (e .0) (e .1) (omega (arith, i .few)))
 
 same-length : tie.Need-same-length Inv-loop μ-loop
 same-length c = search needs
