@@ -1,0 +1,41 @@
+-- Sums judged, and put over a report's numbers, one at a time.
+use mathlib.Core.Path.{_≡_, refl, ap}
+use mathlib.Core.Bool.{_&&_}
+use mathlib.Core.List.{List, [], _∷_, _++_}
+use Prim.Native.Nat.{ℕ, zero, suc, _+_, _^_, _<_}
+use native.Mathlib.Omega.{arith}
+use lib.Dec.{ltb}
+use lib.ListN.{length, take, drop, getD, set}
+use Rattle.report_spec.specs.Sum.{sums, fit}
+
+-- the one at k, and those behind it
+pub fit-from : (ns ms : List ℕ) (k : ℕ) → k < length ns → length ns ≡ length ms
+    → fit (sums (drop k ns) (drop k ms)) ≡ (ltb (getD ns k 0 + getD ms k 0) (2 ^ 64) && fit (sums (drop (suc k) ns) (drop (suc k) ms)))
+fit-from [] ms k h e = absurd (omega arith)
+fit-from (n ∷ ns) [] k h e = absurd (omega arith)
+fit-from (n ∷ ns) (m ∷ ms) zero h e = refl
+fit-from (n ∷ ns) (m ∷ ms) (suc k) h e = fit-from ns ms k (omega arith) (omega arith)
+
+-- the first k sums over ns
+abbrev pub laid : (ns ms : List ℕ) (k : ℕ) → List ℕ
+laid ns ms k = take k (sums ns ms) ++ drop k ns
+
+-- the one at k is as it was
+pub kept : (ns ms : List ℕ) (k : ℕ) → k < length ns → length ns ≡ length ms → getD (laid ns ms k) k 0 ≡ getD ns k 0
+kept [] ms k h e = absurd (omega arith)
+kept (n ∷ ns) [] k h e = absurd (omega arith)
+kept (n ∷ ns) (m ∷ ms) zero h e = refl
+kept (n ∷ ns) (m ∷ ms) (suc k) h e = kept ns ms k (omega arith) (omega arith)
+
+-- one more
+pub laid-more : (ns ms : List ℕ) (k : ℕ) → k < length ns → length ns ≡ length ms → set (laid ns ms k) k (getD ns k 0 + getD ms k 0) ≡ laid ns ms (suc k)
+laid-more [] ms k h e = absurd (omega arith)
+laid-more (n ∷ ns) [] k h e = absurd (omega arith)
+laid-more (n ∷ ns) (m ∷ ms) zero h e = refl
+laid-more (n ∷ ns) (m ∷ ms) (suc k) h e = ap (λ (r : List ℕ). (n + m) ∷ r) (laid-more ns ms k (omega arith) (omega arith))
+
+-- all of them
+pub laid-all : (ns ms : List ℕ) → length ns ≡ length ms → laid ns ms (length ns) ≡ sums ns ms
+laid-all [] ms e = refl
+laid-all (n ∷ ns) [] e = absurd (omega arith)
+laid-all (n ∷ ns) (m ∷ ms) e = ap (λ (r : List ℕ). (n + m) ∷ r) (laid-all ns ms (omega arith))
