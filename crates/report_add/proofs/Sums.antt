@@ -1,12 +1,18 @@
 -- Sums judged, and put over a report's numbers, one at a time.
 use mathlib.Core.Path.{_≡_, refl, ap}
-use mathlib.Core.Bool.{_&&_}
+use mathlib.Core.Bool.{Bool, true, false, _&&_, false≢true}
 use mathlib.Core.List.{List, [], _∷_, _++_}
 use Prim.Native.Nat.{ℕ, zero, suc, _+_, _^_, _<_}
 use native.Mathlib.Omega.{arith}
 use lib.Dec.{ltb}
 use lib.ListN.{length, take, drop, getD, set}
+use borrow.Author.Tests.{ltb-true}
 use Rattle.report_spec.specs.Sum.{sums, fit}
+
+-- both are true
+both : (a b : Bool) → (a && b) ≡ true → (a ≡ true) × (b ≡ true)
+both true b h = (refl, h)
+both false b h = absurd (false≢true h)
 
 -- the one at k, and those behind it
 pub fit-from : (ns ms : List ℕ) (k : ℕ) → k < length ns → length ns ≡ length ms
@@ -15,6 +21,13 @@ fit-from [] ms k h e = absurd (omega arith)
 fit-from (n ∷ ns) [] k h e = absurd (omega arith)
 fit-from (n ∷ ns) (m ∷ ms) zero h e = refl
 fit-from (n ∷ ns) (m ∷ ms) (suc k) h e = fit-from ns ms k (omega arith) (omega arith)
+
+-- where all fit, the one at k does
+pub fit-at : (ns ms : List ℕ) (k : ℕ) → k < length ns → length ns ≡ length ms → fit (sums ns ms) ≡ true → getD ns k 0 + getD ms k 0 < 2 ^ 64
+fit-at [] ms k h e f = absurd (omega arith)
+fit-at (n ∷ ns) [] k h e f = absurd (omega arith)
+fit-at (n ∷ ns) (m ∷ ms) zero h e f = ltb-true (n + m) (2 ^ 64) (both _ _ f .0)
+fit-at (n ∷ ns) (m ∷ ms) (suc k) h e f = fit-at ns ms k (omega arith) (omega arith) (both _ _ f .1)
 
 -- the first k sums over ns
 abbrev pub laid : (ns ms : List ℕ) (k : ℕ) → List ℕ

@@ -12,6 +12,9 @@ use Rattle.report_spec.specs.Notice.{notice}
 use Rattle.report_spec.specs.Own.{seam, own}
 use Rattle.report_spec.specs.Sum.{sums, fit}
 
+abbrev pub added : (fault place : ℕ) → Added
+added n p = record { fault = n; place = p }
+
 -- `longest` counts the octets of the longest BGP message
 module _ (longest : ℕ) where
   -- the report of the records that a walk went over
@@ -24,7 +27,7 @@ module _ (longest : ℕ) where
 
   abbrev pub answerOf : (report : List ℕ) → Walk → Added
   answerOf report w =
-      choose (eqb (w .fault) 0) (choose (fit (total report w)) (record { fault = 0; place = w .place }) (record { fault = 16; place = 0 })) (record { fault = w .fault; place = w .place })
+      choose (eqb (w .fault) 0) (choose (fit (total report w)) (added 0 (w .place)) (added 16 0)) (added (w .fault) (w .place))
 
   abbrev pub leavesOf : (report : List ℕ) → Walk → List ℕ
   leavesOf report w = choose (eqb (w .fault) 0) (choose (fit (total report w)) (total report w) report) report
