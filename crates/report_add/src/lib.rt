@@ -61,7 +61,8 @@ pub fn add_with(d: &[u8], report: &mut [u64; 39], longest: u64) -> Added
     if fault != 0 {
         return Added { fault, place };
     }
-    sum(report, k.own, place)
+    let more = k.own;
+    sum(report, more, place)
 }
 
 // The same up to the longest BGP message of today.

@@ -3,9 +3,8 @@ use mathlib.Core.Path.{_≡_, refl, ap, _∙_}
 use mathlib.Core.List.{List}
 use Prim.Native.Nat.{ℕ, _-_, _≤_, _<_}
 use native.Mathlib.Omega.{arith}
-use native.Mathlib.Numerals.{add-one}
 use lib.ListN.{length, getD}
-use Rattle.report_add.proofs.Sums.{fit-at, laid, kept, laid-more, laid-all}
+use Rattle.report_add.proofs.Sums.{fit-at, laid, kept, laid-length, turn, laid-all}
 use borrow.Author.Needs.{needs}
 use Rattle.report_add.proofs.put_sums.Statement.{statement}
 use Rattle.report_add.proofs.put_sums.Tie as tie
@@ -20,22 +19,28 @@ abbrev μ-loop : tie.MeasureT-loop
 abbrev start : tie.At-loop Inv-loop μ-loop → tie.Start Inv-loop μ-loop
 start c = c .before
 
--- 39 numbers each
-long : (c : tie.Start Inv-loop μ-loop) → (length (c .args .report .now) ≡ 39) × (length (c .args .report .now) ≡ length (c .args .t2))
-long c = (search needs, search needs)
+-- as many numbers each
+long : (c : tie.Start Inv-loop μ-loop) → length (c .args .report .now) ≡ length (c .args .t2)
+long c = let g = c .good .1 .0 in omega (arith, c .pre .0, g .1 .0 .1)
 
 -- the number that a turn reads is as it was
 same : (c : tie.At-loop Inv-loop μ-loop) → c .loop .k < 39 → getD (c .loop .report) (c .loop .k) 0 ≡ getD (start c .args .report .now) (c .loop .k) 0
-same c h = let l = long (start c) in ap (λ (r : List ℕ). getD r (c .loop .k) 0) (c .loop .inv .1) ∙ kept _ _ _ (omega (arith, l .0)) (l .1)
+same c h =
+    let s = start c in
+    ap (λ (r : List ℕ). getD r (c .loop .k) 0) (c .loop .inv .1) ∙ kept (s .args .report .now) (s .args .t2) (c .loop .k) (omega (arith, s .pre .0)) (long s)
+
+-- no number more, none less
+as-long : (c : tie.At-loop Inv-loop μ-loop) → length (c .loop .report) ≡ 39
+as-long c = let s = start c in ap length (c .loop .inv .1) ∙ laid-length (s .args .report .now) (s .args .t2) (c .loop .k) (long s) ∙ s .pre .0
 
 loop-holds : tie.Need-loop-holds Inv-loop μ-loop
 loop-holds c = (omega arith, refl)
 
 mul-report : tie.Need-mul-report Inv-loop μ-loop
-mul-report c = search needs
+mul-report c = let k : tie.At-loop Inv-loop μ-loop = search needs in let h : k .loop .k < 39 = search needs in omega arith
 
-element-copy-out-report : tie.Need-element-copy-out-report Inv-loop μ-loop
-element-copy-out-report c = search needs
+slice-read-report : tie.Need-slice-read-report Inv-loop μ-loop
+slice-read-report c = let k : tie.At-loop Inv-loop μ-loop = search needs in omega (arith, as-long k)
 
 mul-report-2 : tie.Need-mul-report-2 Inv-loop μ-loop
 mul-report-2 c = search needs
@@ -47,14 +52,14 @@ add-report : tie.Need-add-report Inv-loop μ-loop
 add-report c =
     let k : tie.At-loop Inv-loop μ-loop = search needs in
     let h : k .loop .k < 39 = search needs in
-    let l = long (start k) in
-    omega (arith, same k h, fit-at _ _ (k .loop .k) (omega (arith, l .0)) (l .1) (start k .pre))
+    let s = start k in
+    omega (arith, same k h, fit-at (s .args .report .now) (s .args .t2) (k .loop .k) (omega (arith, s .pre .0)) (long s) (s .pre .1))
 
 mul-report-3 : tie.Need-mul-report-3 Inv-loop μ-loop
-mul-report-3 c = search needs
+mul-report-3 c = let k : tie.At-loop Inv-loop μ-loop = search needs in let h : k .loop .k < 39 = search needs in omega arith
 
-element-write-report : tie.Need-element-write-report Inv-loop μ-loop
-element-write-report c = search needs
+slice-write-report : tie.Need-slice-write-report Inv-loop μ-loop
+slice-write-report c = let k : tie.At-loop Inv-loop μ-loop = search needs in omega (arith, as-long k)
 
 add-k : tie.Need-add-k Inv-loop μ-loop
 add-k c = search needs
@@ -66,15 +71,18 @@ loop-again : tie.Need-loop-again Inv-loop μ-loop
 loop-again c =
     let k : tie.At-loop Inv-loop μ-loop = search needs in
     let h : k .loop .k < 39 = search needs in
-    let l = long (start k) in
-    (omega arith, rw (same k h, k .loop .inv .1, add-one (k .loop .k)) (laid-more _ _ (k .loop .k) (omega (arith, l .0)) (l .1)))
+    let s = start k in
+    (omega arith, turn (s .args .report .now) (s .args .t2) (k .loop .report) (k .loop .k) (k .loop .inv .1) (omega (arith, s .pre .0)) (long s))
+
+same-length : tie.Need-same-length Inv-loop μ-loop
+same-length c = let k : tie.At-loop Inv-loop μ-loop = search needs in omega (arith, as-long k, start k .pre .0)
 
 returns : tie.Need-returns Inv-loop μ-loop
 returns c =
     let k : tie.At-loop Inv-loop μ-loop = search needs in
-    let l = long (start k) in
-    let n : k .loop .k ≡ length (start k .args .report .now) = omega (arith, k .loop .inv .0, l .0) in
-    k .loop .inv .1 ∙ rw n (laid-all _ _ (l .1))
+    let s = start k in
+    let n : k .loop .k ≡ length (s .args .report .now) = omega (arith, k .loop .inv .0, s .pre .0) in
+    k .loop .inv .1 ∙ ap (laid (s .args .report .now) (s .args .t2)) n ∙ laid-all (s .args .report .now) (s .args .t2) (long s)
 
 pub put-sums-spec : {M : Type 1} → statement M
 put-sums-spec =
@@ -84,13 +92,14 @@ put-sums-spec =
     μ-loop
     loop-holds
     mul-report
-    element-copy-out-report
+    slice-read-report
     mul-report-2
     array-read-report
     add-report
     mul-report-3
-    element-write-report
+    slice-write-report
     add-k
     loop-less
     loop-again
+    same-length
     returns)
