@@ -4,3 +4,4 @@ pub mod Adding
 pub mod Answers
 pub mod Sums
 pub mod Ends
+pub mod Order

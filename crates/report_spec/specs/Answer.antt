@@ -1,6 +1,7 @@
 -- What adding a dump to a report answers and leaves there: the dump's fault first, then 16 where a sum passes 64 bits, and with either the
 -- report as it was.
-use mathlib.Core.List.{List, [], _∷_, map}
+use mathlib.Core.Path.{_≡_}
+use mathlib.Core.List.{List, [], _∷_, map, foldr}
 use Prim.Native.Nat.{ℕ}
 use lib.Dec.{eqb}
 use Rattle.form_spec.specs.Octets.{Octets}
@@ -47,6 +48,18 @@ module _ (longest : ℕ) where
   abbrev pub reportsLeave : (report : List ℕ) (ds : List (List ℕ)) → List ℕ
   reportsLeave report [] = report
   reportsLeave report (d ∷ ds) = reportsLeave (reportLeaves report d) ds
+
+  -- each call answers the dump's own fault, and so none is refused for a sum
+  abbrev pub NonePasses : (report : List ℕ) (ds : List (List ℕ)) → Type 0
+  NonePasses report [] = Unit
+  NonePasses report (d ∷ ds) = ((reportAnswer report d) .fault ≡ (walkAll (layout longest) d) .fault) × NonePasses (reportLeaves report d) ds
+
+  -- with a dump's own report added, however large the sums; a faulty dump adds nothing
+  abbrev pub plus : (d report : List ℕ) → List ℕ
+  plus d report = choose (eqb ((walkAll (layout longest) d) .fault) 0) (sums report (reportOf d)) report
+
+  abbrev pub together : (report : List ℕ) (ds : List (List ℕ)) → List ℕ
+  together report ds = foldr plus report ds
 
 -- each of them is octets
 abbrev pub AllOctets : List (List ℕ) → Type 0
