@@ -36,6 +36,10 @@ module _ (longest : ℕ) where
   unfoldable pub reportLeaves : (report d : List ℕ) → List ℕ
   reportLeaves report d = leavesOf report (walkAll (layout longest) d)
 
+  -- the promise of adding: r is answered, and the report is held then
+  abbrev pub Adds : (report d : List ℕ) (r : Added) (held : List ℕ) → Type 0
+  Adds report d r held = (r ≡ reportAnswer report d) × (held ≡ reportLeaves report d)
+
   -- a dump's own report
   abbrev pub reportOf : (d : List ℕ) → List ℕ
   reportOf d = ownOf (walkAll (layout longest) d)
