@@ -19,6 +19,7 @@ use Rattle.report_spec.specs.Notice.{notice}
 use Rattle.report_spec.specs.Own.{cells, own}
 use Rattle.report_spec.specs.Sum.{sums, fit}
 use Rattle.report_spec.specs.Answer.{reportAnswer, reportLeaves, reportOf}
+use Rattle.report_laws.proofs.Faults.{faults-to-13}
 use Rattle.report_laws.proofs.Adding.{length-sums}
 
 abbrev answer : (fault place : ℕ) → Added
@@ -76,6 +77,14 @@ module _ (longest : ℕ) (report d : List ℕ) where
   no-fault oc = (
     ways oc (λ x r. x .fault ≡ 0 → Splits (layout longest) d × (fit (sums report (reportOf longest d)) ≡ true)) (λ h e. absurd (h e)) (λ s f e. absurd (omega arith)) (λ s f e. (s, f)),
     λ h. rw (added (h .0) (h .1) .0),
+  )
+
+  -- 16 exactly where the dump splits and a sum does: no dump has such a fault of its own
+  pub sixteen : Octets d → ((reportAnswer longest report d) .fault ≡ 16) ↔ (Splits (layout longest) d × (fit (sums report (reportOf longest d)) ≡ false))
+  sixteen oc = (
+    ways oc (λ x r. x .fault ≡ 16 → Splits (layout longest) d × (fit (sums report (reportOf longest d)) ≡ false))
+        (λ h e. absurd (omega (arith, faults-to-13 longest d))) (λ s f e. (s, f)) (λ s f e. absurd (omega arith)),
+    λ h. rw (passed (h .0) (h .1) .0),
   )
 
   pub faulty-unchanged : Octets d → ((reportAnswer longest report d) .fault ≡ 0 → ⊥) → reportLeaves longest report d ≡ report

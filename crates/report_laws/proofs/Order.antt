@@ -14,9 +14,9 @@ use Rattle.form_spec.specs.Words.{choose}
 use Rattle.form_spec.specs.Dump.{walkAll}
 use Rattle.form_laws.proofs.Dump.{accepts}
 use Rattle.page_spec.specs.Layout.{layout}
-use Rattle.report_spec.specs.declared.Added.{Added}
 use Rattle.report_spec.specs.Sum.{sums, fit}
 use Rattle.report_spec.specs.Answer.{reportAnswer, reportLeaves, reportOf, reportsLeave, NonePasses, plus, together, AllOctets}
+use Rattle.report_laws.proofs.Faults.{faults-to-13}
 use Rattle.report_laws.proofs.Adding.{sums-both, sums-swap, length-sums, fit-less}
 use Rattle.report_laws.proofs.Answers.{length-report, ways}
 
@@ -74,15 +74,13 @@ module _ (longest : ℕ) where
   less-together report [] l f = f
   less-together report (d ∷ ds) l f = less-plus d report l (less-together (plus longest d report) ds (length-plus d report l) (rw (first report d ds) f))
 
-  abbrev Own : (d : List ℕ) → Added → Type 0
-  Own d x = x .fault ≡ (walkAll (layout longest) d) .fault
-
-  leaves-plus : (report d : List ℕ) → Octets d → fit (plus longest d report) ≡ true → Own d (reportAnswer longest report d) × (reportLeaves longest report d ≡ plus longest d report)
+  leaves-plus : (report d : List ℕ) → Octets d → fit (plus longest d report) ≡ true
+      → ((reportAnswer longest report d) .fault ≡ 16 → ⊥) × (reportLeaves longest report d ≡ plus longest d report)
   leaves-plus report d oc =
-      ways longest report d oc (λ x r. fit (plus longest d report) ≡ true → Own d x × (r ≡ plus longest d report))
-      (λ h f. (refl, sym (plus-refused d report h)))
+      ways longest report d oc (λ x r. fit (plus longest d report) ≡ true → (x .fault ≡ 16 → ⊥) × (r ≡ plus longest d report))
+      (λ h f. (λ e. omega (arith, faults-to-13 longest d), sym (plus-refused d report h)))
       (λ s f g. let e = plus-split d report (accepts (layout longest) d oc .1 s) in absurd (false≢true (sym f ∙ rw e at g)))
-      (λ s f g. let z = accepts (layout longest) d oc .1 s in (sym z, sym (plus-split d report z)))
+      (λ s f g. (λ e. omega arith, sym (plus-split d report (accepts (layout longest) d oc .1 s))))
 
   pub in-turn : (report : List ℕ) (ds : List (List ℕ)) → AllOctets ds → length report ≡ 39 → fit (together longest report ds) ≡ true
       → (reportsLeave longest report ds ≡ together longest report ds) × NonePasses longest report ds
@@ -96,18 +94,16 @@ module _ (longest : ℕ) where
 
   -- ---- that they fit can be told from the answers
 
-  leaves-own : (report d : List ℕ) → Octets d → Own d (reportAnswer longest report d) → fit report ≡ true
+  leaves-fit : (report d : List ℕ) → Octets d → ((reportAnswer longest report d) .fault ≡ 16 → ⊥) → fit report ≡ true
       → (reportLeaves longest report d ≡ plus longest d report) × (fit (reportLeaves longest report d) ≡ true)
-  leaves-own report d oc =
-      ways longest report d oc (λ x r. Own d x → fit report ≡ true → (r ≡ plus longest d report) × (fit r ≡ true))
-      (λ h e g. (sym (plus-refused d report h), g))
-      (λ s f e g. absurd (omega (arith, accepts (layout longest) d oc .1 s, e)))
-      (λ s f e g. (sym (plus-split d report (accepts (layout longest) d oc .1 s)), f))
+  leaves-fit report d oc =
+      ways longest report d oc (λ x r. (x .fault ≡ 16 → ⊥) → fit report ≡ true → (r ≡ plus longest d report) × (fit r ≡ true)) (λ h e g. (sym (plus-refused d report h), g))
+      (λ s f e g. absurd (e refl)) (λ s f e g. (sym (plus-split d report (accepts (layout longest) d oc .1 s)), f))
 
   pub none-passes-fit : (report : List ℕ) (ds : List (List ℕ)) → AllOctets ds → fit report ≡ true → NonePasses longest report ds → fit (together longest report ds) ≡ true
   none-passes-fit report [] oc g n = g
   none-passes-fit report (d ∷ ds) oc g n =
-      let a = leaves-own report d (oc .0) (n .0) g in
+      let a = leaves-fit report d (oc .0) (n .0) g in
       let b = none-passes-fit (reportLeaves longest report d) ds (oc .1) (a .1) (n .1) in
       rw (← (first report d ds)) (rw (a .0) at b)
 

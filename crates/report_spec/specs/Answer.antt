@@ -53,10 +53,10 @@ module _ (longest : ℕ) where
   reportsLeave report [] = report
   reportsLeave report (d ∷ ds) = reportsLeave (reportLeaves report d) ds
 
-  -- each call answers the dump's own fault, and so none is refused for a sum
+  -- no call answers 16
   abbrev pub NonePasses : (report : List ℕ) (ds : List (List ℕ)) → Type 0
   NonePasses report [] = Unit
-  NonePasses report (d ∷ ds) = ((reportAnswer report d) .fault ≡ (walkAll (layout longest) d) .fault) × NonePasses (reportLeaves report d) ds
+  NonePasses report (d ∷ ds) = ((reportAnswer report d) .fault ≡ 16 → ⊥) × NonePasses (reportLeaves report d) ds
 
   -- with a dump's own report added, however large the sums; a faulty dump adds nothing
   abbrev pub plus : (d report : List ℕ) → List ℕ

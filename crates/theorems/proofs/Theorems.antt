@@ -27,7 +27,7 @@
 --   sums, fit      report_spec/specs/Sum     numbers added one by one; each is of 64 bits
 --   Balanced       report_spec/specs/Sum     39 numbers, of which the 36 cells sum to the state changes
 --   seamOf         report_spec/specs/Answer  1 where a dump's last record of type 12 is not followed by another dump's first, and else 0
---   reportsLeave   report_spec/specs/Answer  the report behind dumps, each added in turn; with `NonePasses`: none was refused for a sum
+--   reportsLeave   report_spec/specs/Answer  the report behind dumps, each added in turn; with `NonePasses`: no call answers 16
 --   together       report_spec/specs/Answer  the report and the own reports of the dumps that are accepted, summed, however large
 use mathlib.Core.Path.{_≡_, refl, sym, _∙_}
 use mathlib.Core.Logic.{_↔_}
@@ -300,6 +300,10 @@ module _ (longest : ℕ) where
       → (reportAnswer longest report d ≡ record { fault = 16; place = 0 }) × (reportLeaves longest report d ≡ report)
   sum-past-64-bits-adds-nothing report d s f = adding.passed longest report d s f
 
+  -- 16 says that and nothing else
+  pub sixteen-exactly : (report d : List ℕ) → Octets d → ((reportAnswer longest report d) .fault ≡ 16) ↔ (Splits (layout longest) d × (fit (sums report (reportOf longest d)) ≡ false))
+  sixteen-exactly report d o = adding.sixteen longest report d o
+
   -- from an empty report on the 36 cells sum to the state changes, behind any dumps, refused ones among them
   pub cells-sum-to-changes : (ds : List (List ℕ)) → AllOctets ds → Balanced (reportsLeave longest empty ds)
   cells-sum-to-changes ds o = balances.always-balanced longest ds o
@@ -314,12 +318,12 @@ module _ (longest : ℕ) where
       → reportLeaves longest report (a ++ b) ≡ sums (reportLeaves longest (reportLeaves longest report a) b) (breaksAlone (seamOf longest a b))
   added-as-one a b s u report l f = ends.leaves-ends longest a b s u report l f
 
-  -- dumps added one by one leave the sum of the report and of those that are accepted, and none is refused, where that sum is of 64 bits
+  -- dumps added one by one leave the sum of the report and of those that are accepted, where that sum is of 64 bits
   pub added-in-turn : (report : List ℕ) (ds : List (List ℕ)) → AllOctets ds → length report ≡ 39 → fit (together longest report ds) ≡ true
       → (reportsLeave longest report ds ≡ together longest report ds) × NonePasses longest report ds
   added-in-turn report ds o l f = order.in-turn longest report ds o l f
 
-  -- the order of the dumps means nothing: where none is refused for a sum in one order, none is in another, and both leave the same
+  -- the order of the dumps means nothing: where no call answers 16 in one order, none does in another, and both leave the same
   pub any-order-same-report : (report : List ℕ) (ds es : List (List ℕ)) → AllOctets ds → AllOctets es → length report ≡ 39 → fit report ≡ true → Perm ds es
       → NonePasses longest report ds → NonePasses longest report es × (reportsLeave longest report es ≡ reportsLeave longest report ds)
   any-order-same-report report ds es o p l f q n = order.order-means-nothing longest report ds es o p l f q n
