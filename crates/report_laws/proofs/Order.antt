@@ -15,7 +15,8 @@ use Rattle.form_spec.specs.Dump.{walkAll}
 use Rattle.form_laws.proofs.Dump.{accepts}
 use Rattle.page_spec.specs.Layout.{layout}
 use Rattle.report_spec.specs.Sum.{sums, fit}
-use Rattle.report_spec.specs.Answer.{reportAnswer, reportLeaves, reportOf, reportsLeave, NonePasses, plus, together, AllOctets}
+use Rattle.report_spec.specs.Answer.{reportAnswer, reportLeaves, reportOf}
+use Rattle.report_spec.specs.Dumps.{reportsLeave, NonePasses, plus, together, AllOctets}
 use Rattle.report_laws.proofs.Faults.{faults-to-13}
 use Rattle.report_laws.proofs.Adding.{sums-both, sums-swap, length-sums, fit-less}
 use Rattle.report_laws.proofs.Answers.{length-report, ways}

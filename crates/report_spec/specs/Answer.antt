@@ -1,16 +1,15 @@
 -- What adding a dump to a report answers and leaves there: the dump's fault first, then 16 where a sum passes 64 bits, and with either the
 -- report as it was.
 use mathlib.Core.Path.{_≡_}
-use mathlib.Core.List.{List, [], _∷_, map, foldr}
+use mathlib.Core.List.{List, map}
 use Prim.Native.Nat.{ℕ}
 use lib.Dec.{eqb}
-use Rattle.form_spec.specs.Octets.{Octets}
 use Rattle.form_spec.specs.Words.{choose}
 use Rattle.form_spec.specs.Dump.{Walk, walkAll}
 use Rattle.page_spec.specs.Layout.{layout}
 use Rattle.report_spec.specs.declared.Added.{Added}
 use Rattle.report_spec.specs.Notice.{notice}
-use Rattle.report_spec.specs.Own.{seam, own}
+use Rattle.report_spec.specs.Own.{own}
 use Rattle.report_spec.specs.Sum.{sums, fit}
 
 -- `longest` counts the octets of the longest BGP message
@@ -43,29 +42,3 @@ module _ (longest : ℕ) where
   -- a dump's own report
   abbrev pub reportOf : (d : List ℕ) → List ℕ
   reportOf d = ownOf (walkAll (layout longest) d)
-
-  -- the break between two dumps, laid end to end
-  abbrev pub seamOf : (a b : List ℕ) → ℕ
-  seamOf a b = seam (map (notice longest) ((walkAll (layout longest) a) .recs)) (map (notice longest) ((walkAll (layout longest) b) .recs))
-
-  -- behind dumps, each added in turn
-  abbrev pub reportsLeave : (report : List ℕ) (ds : List (List ℕ)) → List ℕ
-  reportsLeave report [] = report
-  reportsLeave report (d ∷ ds) = reportsLeave (reportLeaves report d) ds
-
-  -- no call answers 16
-  abbrev pub NonePasses : (report : List ℕ) (ds : List (List ℕ)) → Type 0
-  NonePasses report [] = Unit
-  NonePasses report (d ∷ ds) = ((reportAnswer report d) .fault ≡ 16 → ⊥) × NonePasses (reportLeaves report d) ds
-
-  -- with a dump's own report added, however large the sums; a faulty dump adds nothing
-  abbrev pub plus : (d report : List ℕ) → List ℕ
-  plus d report = choose (eqb ((walkAll (layout longest) d) .fault) 0) (sums report (reportOf d)) report
-
-  abbrev pub together : (report : List ℕ) (ds : List (List ℕ)) → List ℕ
-  together report ds = foldr plus report ds
-
--- each of them is octets
-abbrev pub AllOctets : List (List ℕ) → Type 0
-AllOctets [] = Unit
-AllOctets (d ∷ ds) = Octets d × AllOctets ds

@@ -26,9 +26,9 @@
 --   reportOf       report_spec/specs/Answer  a dump's own report, 39 numbers read off its records, by `own` of report_spec/specs/Own
 --   sums, fit      report_spec/specs/Sum     numbers added one by one; each is of 64 bits
 --   Balanced       report_spec/specs/Sum     39 numbers, of which the 36 cells sum to the state changes
---   seamOf         report_spec/specs/Answer  1 where a dump's last record of type 12 is not followed by another dump's first, and else 0
---   reportsLeave   report_spec/specs/Answer  the report behind dumps, each added in turn; with `NonePasses`: no call answers 16
---   together       report_spec/specs/Answer  the report and the own reports of the dumps that are accepted, summed, however large
+--   seamOf         report_spec/specs/Dumps   1 where both dumps have records of type 12 and the first's last is not followed by the second's first; else 0
+--   reportsLeave   report_spec/specs/Dumps   the report behind dumps, each added in turn; with `NonePasses`: no call answers 16
+--   together       report_spec/specs/Dumps   the report and the own reports of the dumps that are accepted, summed, however large
 use mathlib.Core.Path.{_≡_, refl, sym, _∙_}
 use mathlib.Core.Logic.{_↔_}
 use mathlib.Core.Bool.{true, false}
@@ -82,7 +82,8 @@ use Rattle.cut_spec.specs.Cut.{mem}
 use Rattle.cut_spec.specs.Answer.{leftOf, cutAnswer, cutLeaves, Cuts}
 use Rattle.report_spec.specs.Notice.{notice, noticeOf}
 use Rattle.report_spec.specs.Sum.{empty, breaksAlone, sums, fit, Balanced}
-use Rattle.report_spec.specs.Answer.{reportAnswer, reportLeaves, Adds, reportOf, seamOf, reportsLeave, NonePasses, together, AllOctets}
+use Rattle.report_spec.specs.Answer.{reportAnswer, reportLeaves, Adds, reportOf}
+use Rattle.report_spec.specs.Dumps.{seamOf, reportsLeave, NonePasses, together, AllOctets}
 use Rattle.report_spec.specs.declared.Added.{Added}
 use Rattle.dagsumilat_spec.specs.declared.RecordAnswer.{RecordAnswer}
 use Rattle.dagsumilat_spec.specs.RecordAnswers.{tableByCount, answerAt}
