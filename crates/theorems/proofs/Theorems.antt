@@ -24,6 +24,7 @@
 --   listing        listing_spec/specs/Text   the text that the program prints
 --   leftOf         cut_spec/specs/Answer     what is left of a dump, by `cut` of cut_spec/specs/Cut
 --   reportOf       report_spec/specs/Answer  a dump's own report, 39 numbers read off its records, by `own` of report_spec/specs/Own
+--   notice         report_spec/specs/Notice  what is counted of a record; `changes`, `times` and `breaksBehind` of report_spec/specs/Own count it
 --   sums, fit      report_spec/specs/Sum     numbers added one by one; each is of 64 bits
 --   Balanced       report_spec/specs/Sum     39 numbers, of which the 36 cells sum to the state changes
 --   seamOf         report_spec/specs/Dumps   1 where both dumps have records of type 12 and the first's last is not followed by the second's first; else 0
@@ -32,9 +33,9 @@
 use mathlib.Core.Path.{_≡_, refl, sym, _∙_}
 use mathlib.Core.Logic.{_↔_}
 use mathlib.Core.Bool.{true, false}
-use mathlib.Core.List.{List, [], _++_, Perm}
-use Prim.Native.Nat.{ℕ, suc, _+_, _≤_, _<_, min, max}
-use lib.ListN.{length, take, drop}
+use mathlib.Core.List.{List, [], _∷_, _++_, map, Perm}
+use Prim.Native.Nat.{ℕ, suc, _+_, _-_, _*_, _≤_, _<_, min, max}
+use lib.ListN.{length, take, drop, getD}
 use Rattle.form_spec.specs.Octets.{Octets}
 use Rattle.form_spec.specs.Fmt.{good}
 use Rattle.form_spec.specs.Body.{AllFits}
@@ -80,7 +81,10 @@ use Rattle.walk_spec.specs.declared.Step.{Step}
 use Rattle.listing_spec.specs.Text.{faultLine, lines, listing}
 use Rattle.cut_spec.specs.Cut.{mem}
 use Rattle.cut_spec.specs.Answer.{leftOf, cutAnswer, cutLeaves, Cuts}
-use Rattle.report_spec.specs.Notice.{notice, noticeOf}
+use Rattle.report_spec.specs.declared.Notice.the-variants.{Change}
+use Rattle.report_spec.specs.declared.Last.the-variants.{Absent}
+use Rattle.report_spec.specs.Notice.{notice, noticeOf, InStates}
+use Rattle.report_spec.specs.Own.{changes, times, breaksBehind}
 use Rattle.report_spec.specs.Sum.{empty, breaksAlone, sums, fit, Balanced}
 use Rattle.report_spec.specs.Answer.{reportAnswer, reportLeaves, Adds, reportOf}
 use Rattle.report_spec.specs.Dumps.{seamOf, reportsLeave, NonePasses, together, AllOctets}
@@ -281,6 +285,13 @@ module _ (longest : ℕ) where
   -- what is counted of a record is what reading shows of it: the states of a state change, the sequence of type 12
   pub counted-as-shown : (s : List ℕ) (st : St) (r : Rec) (x : Shown) → Valid (layout longest) st r → Same longest s r x → notice longest r ≡ noticeOf x
   counted-as-shown s st r x v h = shown.notice-shown longest s st r x v h
+
+  -- a dump's own 39 numbers: its records, state changes and breaks, and how often each old state went to each new one
+  pub own-report-counts : (d : List ℕ) (s : Splits (layout longest) d)
+      → let ns = map (notice longest) (s .0) in
+      (take 3 (reportOf longest d) ≡ length (s .0) ∷ changes ns ∷ breaksBehind Absent ns ∷ [])
+      × ((old new : ℕ) → InStates (Change old new) → getD (reportOf longest d) (3 + 6 * (old - 1) + (new - 1)) 0 ≡ times old new ns)
+  own-report-counts d s = adding.report-counts longest d s
 
   -- no fault exactly where the dump splits into whole records and no sum passes 64 bits;
   pub added-exactly : (report d : List ℕ) → Octets d → ((reportAnswer longest report d) .fault ≡ 0) ↔ (Splits (layout longest) d × (fit (sums report (reportOf longest d)) ≡ true))
