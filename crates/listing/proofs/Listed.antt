@@ -18,8 +18,8 @@ use Rattle.walk_spec.specs.declared.Item.{Item}
 use Rattle.walk_spec.specs.declared.Step.the-variants.{End, Fault, Record}
 use Rattle.walk_laws.proofs.Goes.{Past, goes-to}
 use Rattle.listing_spec.specs.Text.{line, faultLine, recordLine, lines, walkText}
-use Rattle.listing.specs.Lays.{Lays}
-use Rattle.listing.proofs.Lays.{both}
+use Rattle.listing_spec.specs.Lays.{Lays}
+use Rattle.listing_laws.proofs.Lays.{both}
 
 -- ---- the text of a walk, a step at a time
 

@@ -7,7 +7,7 @@ ghost use Rattle.page_spec.specs.Bgp4mp.{longestMessage};
 ghost use Rattle.decimal_spec.specs.Decimal.{decimal};
 ghost use Rattle.form_spec.specs.Dump.{walkAll};
 ghost use Rattle.page_spec.specs.Layout.{layout};
-ghost use Rattle.listing.specs.Lays.{Lays};
+ghost use Rattle.listing_spec.specs.Lays.{Lays};
 ghost use Rattle.listing_spec.specs.Text.{line, faultLine, walkText, listing};
 use decimal::put_decimal;
 use octets::put_bytes;
@@ -16,7 +16,7 @@ use walk::step_at;
 use walk_spec::Step;
 
 // A key and its number over out, from `at` on; answers where they end.
-fn put_entry(out: &mut [u8], at: usize, key: &[u8], n: u64) -> usize
+pub fn put_entry(out: &mut [u8], at: usize, key: &[u8], n: u64) -> usize
     requires { ⌜ at + length (now key ++ decimal n) ≤ length (now out) ⌝ }
     ensures { λ r. ⌜ Lays (now (out .entry)) at (now (key .entry) ++ decimal n) r (now (out .exit)) ⌝ }
 {
@@ -45,7 +45,7 @@ fn put_line(
     e + 1
 }
 
-fn put_fault(out: &mut [u8], put: usize, fault: u8, place: usize) -> usize
+pub fn put_fault(out: &mut [u8], put: usize, fault: u8, place: usize) -> usize
     requires { ⌜ put + 37 ≤ length (now out) ⌝ }
     ensures { λ r. ⌜ Lays (now (out .entry)) put (faultLine fault place) r (now (out .exit)) × (r ≤ put + 37) ⌝ }
 {

@@ -2,7 +2,7 @@
 use mathlib.Core.Path.{refl}
 use native.Mathlib.Omega.{arith}
 use Rattle.page_spec.specs.Bgp4mp.{longestMessage}
-use Rattle.listing.proofs.Lays.{front}
+use Rattle.listing_laws.proofs.Lays.{front}
 use Rattle.listing_laws.proofs.Listing.{all-large, all-walked}
 use borrow.Author.Needs.{needs}
 use Rattle.listing.proofs.list.Statement.{statement}

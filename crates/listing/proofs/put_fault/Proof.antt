@@ -4,7 +4,7 @@ use native.Mathlib.Omega.{arith}
 use lib.ListN.{length, length-append, length-set}
 use Rattle.decimal_spec.specs.Decimal.{decimal}
 use Rattle.listing_spec.specs.Text.{faultLine}
-use Rattle.listing.proofs.Lays.{both, one, short, double}
+use Rattle.listing_laws.proofs.Lays.{both, one, short, double}
 use borrow.Author.Needs.{needs}
 use Rattle.listing.proofs.put_fault.Statement.{statement}
 use Rattle.listing.proofs.put_fault.Tie as tie

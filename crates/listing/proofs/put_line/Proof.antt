@@ -4,7 +4,7 @@ use native.Mathlib.Omega.{arith}
 use lib.ListN.{length, length-append, length-set}
 use Rattle.decimal_spec.specs.Decimal.{decimal}
 use Rattle.listing_spec.specs.Text.{line}
-use Rattle.listing.proofs.Lays.{both, one, half, whole, double}
+use Rattle.listing_laws.proofs.Lays.{both, one, half, whole, double}
 use borrow.Author.Needs.{needs}
 use Rattle.listing.proofs.put_line.Statement.{statement}
 use Rattle.listing.proofs.put_line.Tie as tie

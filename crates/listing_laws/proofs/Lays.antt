@@ -8,7 +8,7 @@ use Rattle.octets_spec.specs.Over.{over}
 use Rattle.octets_laws.proofs.Over.{more, over-one}
 use Rattle.decimal_spec.specs.Decimal.{decimal}
 use Rattle.decimal_laws.proofs.Decimal.{decimal-length}
-use Rattle.listing.specs.Lays.{Lays}
+use Rattle.listing_spec.specs.Lays.{Lays}
 
 module _ {out : List ℕ} {at : ℕ} {s t : List ℕ} {m n : ℕ} {l k : List ℕ} where
   -- t behind s
