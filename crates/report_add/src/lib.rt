@@ -5,7 +5,7 @@ ghost use lib.ListN.{length};
 ghost use Rattle.page_spec.specs.Bgp4mp.{longestMessage};
 ghost use Rattle.report_spec.specs.Sum.{sums, fit};
 ghost use Rattle.form_spec.specs.Words.{choose};
-ghost use Rattle.report_spec.specs.Answer.{added, reportAnswer, reportLeaves};
+ghost use Rattle.report_spec.specs.Answer.{added, Adds};
 use page_spec::LONGEST_MESSAGE;
 use report_spec::Added;
 use walk::tally;
@@ -53,7 +53,7 @@ fn sum(report: &mut [u64], more: [u64; 39], place: usize) -> Added
 
 // Where a BGP message has at most `longest` octets.
 pub fn add_with(d: &[u8], report: &mut [u64; 39], longest: u64) -> Added
-    ensures { λ r. ⌜ (r ≡ reportAnswer longest (now (report .entry)) (now (d .entry))) × (now (report .exit) ≡ reportLeaves longest (now (report .entry)) (now (d .entry))) ⌝ }
+    ensures { λ r. ⌜ Adds longest (now (report .entry)) (now (d .entry)) r (now (report .exit)) ⌝ }
 {
     let k = tally(d, true, longest);
     let fault = k.fault;
@@ -67,7 +67,7 @@ pub fn add_with(d: &[u8], report: &mut [u64; 39], longest: u64) -> Added
 
 // The same up to the longest BGP message of today.
 pub fn add(d: &[u8], report: &mut [u64; 39]) -> Added
-    ensures { λ r. ⌜ (r ≡ reportAnswer longestMessage (now (report .entry)) (now (d .entry))) × (now (report .exit) ≡ reportLeaves longestMessage (now (report .entry)) (now (d .entry))) ⌝ }
+    ensures { λ r. ⌜ Adds longestMessage (now (report .entry)) (now (d .entry)) r (now (report .exit)) ⌝ }
 {
     add_with(d, report, LONGEST_MESSAGE)
 }
