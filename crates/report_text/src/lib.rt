@@ -72,7 +72,8 @@ fn put_answer(out: &mut [u8], t: Tallied) -> usize
     if fault != 0 {
         return put_fault(out, 0, fault, t.place);
     }
-    put_report(out, t.own)
+    let own = t.own;
+    put_report(out, own)
 }
 
 // All that the program writes for the dump d. Answers how many octets of out it is; behind them out stays as it was.
