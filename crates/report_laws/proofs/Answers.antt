@@ -2,11 +2,11 @@
 use mathlib.Core.Path.{_≡_, refl, sym, _∙_}
 use mathlib.Core.Bool.{Bool, true, false}
 use mathlib.Core.Logic.{_↔_}
-use mathlib.Core.List.{List, map}
-use Prim.Native.Nat.{ℕ}
+use mathlib.Core.List.{List, [], _∷_, map}
+use Prim.Native.Nat.{ℕ, _+_, _*_, _-_}
 use native.Mathlib.Omega.{arith}
 use lib.Dec.{eqb}
-use lib.ListN.{length}
+use lib.ListN.{length, take, getD, length-map}
 use borrow.Author.Tests.{eqb-true, eqb-false, ne-eqb}
 use Rattle.form_spec.specs.Octets.{Octets}
 use Rattle.form_spec.specs.Words.{choose}
@@ -15,10 +15,14 @@ use Rattle.form_laws.proofs.Dump.{accepts, shows}
 use Rattle.page_spec.specs.Layout.{layout}
 use Rattle.report_spec.specs.declared.Added.{Added}
 use Rattle.report_spec.specs.declared.Notice.{Notice}
-use Rattle.report_spec.specs.Notice.{notice}
-use Rattle.report_spec.specs.Own.{cells, own}
+use Rattle.report_spec.specs.declared.Notice.the-variants.{Change}
+use Rattle.report_spec.specs.declared.Last.the-variants.{Absent}
+use Rattle.report_spec.specs.Notice.{notice, InStates}
+use Rattle.report_spec.specs.Own.{changes, times, cells, breaksBehind, own}
 use Rattle.report_spec.specs.Sum.{sums, fit}
 use Rattle.report_spec.specs.Answer.{reportAnswer, reportLeaves, reportOf}
+use Rattle.report_laws.proofs.Own.{cell-at}
+use Rattle.report_laws.proofs.Faults.{faults-to-13}
 use Rattle.report_laws.proofs.Adding.{length-sums}
 
 abbrev answer : (fault place : ℕ) → Added
@@ -29,6 +33,20 @@ answer n p = record { fault = n; place = p }
 -- of the records that it splits into
 pub report-of-split : (longest : ℕ) (d : List ℕ) (s : Splits (layout longest) d) → reportOf longest d ≡ own (map (notice longest) (s .0))
 report-of-split longest d s = rw (shows (layout longest) d (s .0) (s .1) (s .2))
+
+first-three : (ns : List Notice) → take 3 (own ns) ≡ length ns ∷ changes ns ∷ breaksBehind Absent ns ∷ []
+unfolding own
+first-three ns = refl
+
+-- records, state changes and breaks, and how often each old state went to each new one
+pub report-counts : (longest : ℕ) (d : List ℕ) (s : Splits (layout longest) d)
+    → let ns = map (notice longest) (s .0) in
+    (take 3 (reportOf longest d) ≡ length (s .0) ∷ changes ns ∷ breaksBehind Absent ns ∷ [])
+    × ((old new : ℕ) → InStates (Change old new) → getD (reportOf longest d) (3 + 6 * (old - 1) + (new - 1)) 0 ≡ times old new ns)
+report-counts longest d s = (
+  rw (report-of-split longest d s, ← (length-map (s .0) (notice longest))) (first-three (map (notice longest) (s .0))),
+  λ old new h. rw (report-of-split longest d s) (cell-at (map (notice longest) (s .0)) old new h),
+)
 
 pub length-own : (ns : List Notice) → length (own ns) ≡ 39
 unfolding own cells
@@ -76,6 +94,14 @@ module _ (longest : ℕ) (report d : List ℕ) where
   no-fault oc = (
     ways oc (λ x r. x .fault ≡ 0 → Splits (layout longest) d × (fit (sums report (reportOf longest d)) ≡ true)) (λ h e. absurd (h e)) (λ s f e. absurd (omega arith)) (λ s f e. (s, f)),
     λ h. rw (added (h .0) (h .1) .0),
+  )
+
+  -- 16 exactly where the dump splits and a sum does: no dump has such a fault of its own
+  pub sixteen : Octets d → ((reportAnswer longest report d) .fault ≡ 16) ↔ (Splits (layout longest) d × (fit (sums report (reportOf longest d)) ≡ false))
+  sixteen oc = (
+    ways oc (λ x r. x .fault ≡ 16 → Splits (layout longest) d × (fit (sums report (reportOf longest d)) ≡ false))
+        (λ h e. absurd (omega (arith, faults-to-13 longest d))) (λ s f e. (s, f)) (λ s f e. absurd (omega arith)),
+    λ h. rw (passed (h .0) (h .1) .0),
   )
 
   pub faulty-unchanged : Octets d → ((reportAnswer longest report d) .fault ≡ 0 → ⊥) → reportLeaves longest report d ≡ report

@@ -15,7 +15,8 @@ use Rattle.report_spec.specs.declared.Last.the-variants.{Absent}
 use Rattle.report_spec.specs.Notice.{notice}
 use Rattle.report_spec.specs.Own.{changes, states, cells, joined, lastBehind, breaksBehind, brokenFirst, seam, own}
 use Rattle.report_spec.specs.Sum.{breaksAlone, sums, fit}
-use Rattle.report_spec.specs.Answer.{reportOf, seamOf, reportLeaves}
+use Rattle.report_spec.specs.Answer.{reportOf, reportLeaves}
+use Rattle.report_spec.specs.Dumps.{seamOf}
 use Rattle.report_laws.proofs.Own.{broken-once, changes-append, times-append, breaks-append}
 use Rattle.report_laws.proofs.Adding.{sums-zero, sums-both, length-sums, fit-less}
 use Rattle.report_laws.proofs.Answers.{length-report, added}

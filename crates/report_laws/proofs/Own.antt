@@ -1,18 +1,19 @@
 -- A dump's own report, a record at a time and a stretch of records at a time, and how large its numbers can be.
-use mathlib.Core.Path.{_≡_, refl, ap, fun-ext, _∙_}
+use mathlib.Core.Path.{_≡_, refl, sym, ap, fun-ext, _∙_}
 use mathlib.Core.Bool.{Bool, true, false, cond, _&&_}
 use mathlib.Core.List.{List, [], _∷_, _++_, map}
-use Prim.Native.Nat.{ℕ, zero, suc, _+_, _-_, _≤_}
+use Prim.Native.Nat.{ℕ, zero, suc, _+_, _-_, _*_, _≤_, _<_}
 use native.Mathlib.Omega.{arith}
 use lib.Dec.{eqb}
-use lib.ListN.{length, getD, set, replicate}
+use lib.ListN.{length, getD, set, drop, replicate, List·getD-append}
+use lib.Seq.{getD-drop}
 use borrow.Author.Tests.{eq-eqb}
 use Rattle.report_spec.specs.declared.Notice.{Notice}
 use Rattle.report_spec.specs.declared.Notice.the-variants.{Plain, Change, Sequence}
 use Rattle.report_spec.specs.declared.Last.{Last}
 use Rattle.report_spec.specs.declared.Last.the-variants.{Absent, Was}
 use Rattle.report_spec.specs.Notice.{InStates}
-use Rattle.report_spec.specs.Own.{changes, times, states, cells, following, broken, lastBehind, breaksBehind}
+use Rattle.report_spec.specs.Own.{changes, times, states, cells, following, broken, lastBehind, breaksBehind, own}
 use Rattle.report_spec.specs.Tally.{bumped}
 
 -- ---- one stretch behind another
@@ -121,6 +122,26 @@ module _ (ns : List Notice) (old new : ℕ) (h : InStates (Change old new)) wher
 
   pub cells-change : cells (ns ++ (Change old new ∷ [])) ≡ bumped (cells ns) old new
   cells-change = rw (other-row, other-number, both, cell, row-of)
+
+-- ---- where a cell stands in the 39 numbers
+
+row-at : (ns : List Notice) (old : ℕ) → 1 ≤ old → old ≤ 6 → drop (3 + 6 * (old - 1)) (own ns) ≡ row ns old ++ drop (3 + 6 * old) (own ns)
+unfolding own cells
+row-at ns zero a b = absurd (omega arith)
+row-at ns (suc zero) a b = refl
+row-at ns (suc (suc zero)) a b = refl
+row-at ns (suc (suc (suc zero))) a b = refl
+row-at ns (suc (suc (suc (suc zero)))) a b = refl
+row-at ns (suc (suc (suc (suc (suc zero))))) a b = refl
+row-at ns (suc (suc (suc (suc (suc (suc zero)))))) a b = refl
+row-at ns (suc (suc (suc (suc (suc (suc (suc j))))))) a b = absurd (omega arith)
+
+pub cell-at : (ns : List Notice) (old new : ℕ) → InStates (Change old new) → getD (own ns) (3 + 6 * (old - 1) + (new - 1)) 0 ≡ times old new ns
+cell-at ns old new h =
+    let l : new - 1 < length (row ns old) = omega (arith, h .3) in
+    sym (getD-drop (3 + 6 * (old - 1)) (own ns) (new - 1) 0)
+    ∙ rw (row-at ns old (h .0) (h .1)) (List·getD-append (row ns old) (drop (3 + 6 * old) (own ns)) 0 (new - 1) l)
+    ∙ at-state (λ n. times old n ns) 0 new (h .2) (h .3)
 
 -- ---- no number is above the number of records
 

@@ -16,7 +16,8 @@ use Rattle.report_spec.specs.declared.Notice.the-variants.{Plain, Change, Seque
 use Rattle.report_spec.specs.Notice.{notice, AllInStates}
 use Rattle.report_spec.specs.Own.{changes, times, states, cells, joined, own}
 use Rattle.report_spec.specs.Sum.{empty, sums, sumOf, Balanced}
-use Rattle.report_spec.specs.Answer.{reportOf, reportLeaves, reportsLeave, AllOctets}
+use Rattle.report_spec.specs.Answer.{reportOf, reportLeaves}
+use Rattle.report_spec.specs.Dumps.{reportsLeave, AllOctets}
 use Rattle.report_laws.proofs.Own.{row}
 use Rattle.report_laws.proofs.Shown.{states-valid}
 use Rattle.report_laws.proofs.Answers.{report-of-split, ways}

@@ -3,3 +3,4 @@ pub mod Own
 pub mod Tally
 pub mod Sum
 pub mod Answer
+pub mod Dumps

@@ -1,9 +1,10 @@
--- The user's three demands as theorems about what the functions promise, each one line to the crate that proves it.
+-- The user's three demands, and the report, as theorems about what the functions promise, each one line to the crate that proves it.
 --
 -- A promise is an equation: `walk::walk` answers `walked`, `walk::step_at` `stepAt` (in `Steps`), `record::read_record` shows `readOne` (in
 -- `Reads`), a writer answers `writerAnswer` and leaves `writerLeaves` in its buffer (in `Writes`), `cut::cut` answers `cutAnswer` and leaves
--- `cutLeaves` (in `Cuts`). So what is said here of those definitions holds of every call. Octets are numbers below 256; `longest` counts the octets of the longest BGP message, and the public functions take
--- `longestMessage` for it.
+-- `cutLeaves` (in `Cuts`), `report_add::add` answers `reportAnswer` and leaves `reportLeaves` of the report (in `Adds`). So what is said here
+-- of those definitions holds of every call. Octets are numbers below 256; `longest` counts the octets of the longest BGP message, and the
+-- public functions take `longestMessage` for it.
 --
 -- The words, and where they are defined:
 --   layout         page_spec/specs/Layout    document 01's layouts, by Type and Subtype
@@ -22,11 +23,19 @@
 --   numberFor      room_spec/specs/Room      the fault, then 15
 --   listing        listing_spec/specs/Text   the text that the program prints
 --   leftOf         cut_spec/specs/Answer     what is left of a dump, by `cut` of cut_spec/specs/Cut
+--   reportOf       report_spec/specs/Answer  a dump's own report, 39 numbers read off its records, by `own` of report_spec/specs/Own
+--   notice         report_spec/specs/Notice  what is counted of a record; `changes`, `times` and `breaksBehind` of report_spec/specs/Own count it
+--   sums, fit      report_spec/specs/Sum     numbers added one by one; each is of 64 bits
+--   Balanced       report_spec/specs/Sum     39 numbers, of which the 36 cells sum to the state changes
+--   seamOf         report_spec/specs/Dumps   1 where both dumps have records of type 12 and the first's last is not followed by the second's first; else 0
+--   reportsLeave   report_spec/specs/Dumps   the report behind dumps, each added in turn; with `NonePasses`: no call answers 16
+--   together       report_spec/specs/Dumps   the report and the own reports of the dumps that are accepted, summed, however large
 use mathlib.Core.Path.{_≡_, refl, sym, _∙_}
 use mathlib.Core.Logic.{_↔_}
-use mathlib.Core.List.{List, [], _++_}
-use Prim.Native.Nat.{ℕ, suc, _+_, _≤_, _<_, min, max}
-use lib.ListN.{length, take, drop}
+use mathlib.Core.Bool.{true, false}
+use mathlib.Core.List.{List, [], _∷_, _++_, map, Perm}
+use Prim.Native.Nat.{ℕ, suc, _+_, _-_, _*_, _≤_, _<_, min, max}
+use lib.ListN.{length, take, drop, getD}
 use Rattle.form_spec.specs.Octets.{Octets}
 use Rattle.form_spec.specs.Fmt.{good}
 use Rattle.form_spec.specs.Body.{AllFits}
@@ -72,6 +81,14 @@ use Rattle.walk_spec.specs.declared.Step.{Step}
 use Rattle.listing_spec.specs.Text.{faultLine, lines, listing}
 use Rattle.cut_spec.specs.Cut.{mem}
 use Rattle.cut_spec.specs.Answer.{leftOf, cutAnswer, cutLeaves, Cuts}
+use Rattle.report_spec.specs.declared.Notice.the-variants.{Change}
+use Rattle.report_spec.specs.declared.Last.the-variants.{Absent}
+use Rattle.report_spec.specs.Notice.{notice, noticeOf, InStates}
+use Rattle.report_spec.specs.Own.{changes, times, breaksBehind}
+use Rattle.report_spec.specs.Sum.{empty, breaksAlone, sums, fit, Balanced}
+use Rattle.report_spec.specs.Answer.{reportAnswer, reportLeaves, Adds, reportOf}
+use Rattle.report_spec.specs.Dumps.{seamOf, reportsLeave, NonePasses, together, AllOctets}
+use Rattle.report_spec.specs.declared.Added.{Added}
 use Rattle.dagsumilat_spec.specs.declared.RecordAnswer.{RecordAnswer}
 use Rattle.dagsumilat_spec.specs.RecordAnswers.{tableByCount, answerAt}
 use Rattle.dagsumilat_spec.specs.Unjudged.{unjudgedAt}
@@ -90,6 +107,11 @@ use Rattle.listing_laws.proofs.Listing as texts
 use Rattle.cut_laws.proofs.Answers as answers-of
 use Rattle.cut_laws.proofs.Demand3 as cuts
 use Rattle.cut_laws.proofs.Orders as orders
+use Rattle.report_laws.proofs.Shown as shown
+use Rattle.report_laws.proofs.Answers as adding
+use Rattle.report_laws.proofs.Sums as balances
+use Rattle.report_laws.proofs.Ends as ends
+use Rattle.report_laws.proofs.Order as order
 use Rattle.dagsumilat_laws.proofs.Items as calls
 
 -- ==== Demand 1. Any bytes may arrive, and any call may be made with them.
@@ -258,6 +280,66 @@ module _ (longest : ℕ) where
       × (take (length first) held ≡ first) × (take (length second) (drop (length first) held) ≡ second)
   cut-of-both from to mutes a b out p q e f w h = let c = cuts.both longest from to mutes a b out p q e f w h in (c .bytes, c .answer, c .first, c .second)
 
+  -- ==== The report. Each dump is counted alone, then added to a report of 39 numbers.
+
+  -- what is counted of a record is what reading shows of it: the states of a state change, the sequence of type 12
+  pub counted-as-shown : (s : List ℕ) (st : St) (r : Rec) (x : Shown) → Valid (layout longest) st r → Same longest s r x → notice longest r ≡ noticeOf x
+  counted-as-shown s st r x v h = shown.notice-shown longest s st r x v h
+
+  -- a dump's own 39 numbers: its records, state changes and breaks, and how often each old state went to each new one
+  pub own-report-counts : (d : List ℕ) (s : Splits (layout longest) d)
+      → let ns = map (notice longest) (s .0) in
+      (take 3 (reportOf longest d) ≡ length (s .0) ∷ changes ns ∷ breaksBehind Absent ns ∷ [])
+      × ((old new : ℕ) → InStates (Change old new) → getD (reportOf longest d) (3 + 6 * (old - 1) + (new - 1)) 0 ≡ times old new ns)
+  own-report-counts d s = adding.report-counts longest d s
+
+  -- no fault exactly where the dump splits into whole records and no sum passes 64 bits;
+  pub added-exactly : (report d : List ℕ) → Octets d → ((reportAnswer longest report d) .fault ≡ 0) ↔ (Splits (layout longest) d × (fit (sums report (reportOf longest d)) ≡ true))
+  added-exactly report d o = adding.no-fault longest report d o
+
+  -- then its own report is added;
+  pub added-answer : (report d : List ℕ) → Splits (layout longest) d → fit (sums report (reportOf longest d)) ≡ true
+      → (reportAnswer longest report d ≡ record { fault = 0; place = length d }) × (reportLeaves longest report d ≡ sums report (reportOf longest d))
+  added-answer report d s f = adding.added longest report d s f
+
+  -- the dump's own fault comes first, with its place; a sum that passes 64 bits is 16 at 0; with either the report is as it was
+  pub faulty-dump-adds-nothing : (report d : List ℕ) → (walked longest d .fault ≡ 0 → ⊥)
+      → (reportAnswer longest report d ≡ record { fault = walked longest d .fault; place = walked longest d .place }) × (reportLeaves longest report d ≡ report)
+  unfolding walked
+  faulty-dump-adds-nothing report d h = adding.refused longest report d h
+
+  pub sum-past-64-bits-adds-nothing : (report d : List ℕ) → Splits (layout longest) d → fit (sums report (reportOf longest d)) ≡ false
+      → (reportAnswer longest report d ≡ record { fault = 16; place = 0 }) × (reportLeaves longest report d ≡ report)
+  sum-past-64-bits-adds-nothing report d s f = adding.passed longest report d s f
+
+  -- 16 says that and nothing else
+  pub sixteen-exactly : (report d : List ℕ) → Octets d → ((reportAnswer longest report d) .fault ≡ 16) ↔ (Splits (layout longest) d × (fit (sums report (reportOf longest d)) ≡ false))
+  sixteen-exactly report d o = adding.sixteen longest report d o
+
+  -- from an empty report on the 36 cells sum to the state changes, behind any dumps, refused ones among them
+  pub cells-sum-to-changes : (ds : List (List ℕ)) → AllOctets ds → Balanced (reportsLeave longest empty ds)
+  cells-sum-to-changes ds o = balances.always-balanced longest ds o
+
+  -- two accepted dumps laid end to end have the sum of their reports, but for a break at the seam,
+  pub report-of-both : (a b : List ℕ) → Splits (layout longest) a → Splits (layout longest) b
+      → reportOf longest (a ++ b) ≡ sums (sums (reportOf longest a) (reportOf longest b)) (breaksAlone (seamOf longest a b))
+  report-of-both a b s u = ends.report-ends longest a b s u
+
+  -- and so added as one they leave what they leave one after the other, and the seam
+  pub added-as-one : (a b : List ℕ) → Splits (layout longest) a → Splits (layout longest) b → (report : List ℕ) → length report ≡ 39 → fit (sums report (reportOf longest (a ++ b))) ≡ true
+      → reportLeaves longest report (a ++ b) ≡ sums (reportLeaves longest (reportLeaves longest report a) b) (breaksAlone (seamOf longest a b))
+  added-as-one a b s u report l f = ends.leaves-ends longest a b s u report l f
+
+  -- dumps added one by one leave the sum of the report and of those that are accepted, where that sum is of 64 bits
+  pub added-in-turn : (report : List ℕ) (ds : List (List ℕ)) → AllOctets ds → length report ≡ 39 → fit (together longest report ds) ≡ true
+      → (reportsLeave longest report ds ≡ together longest report ds) × NonePasses longest report ds
+  added-in-turn report ds o l f = order.in-turn longest report ds o l f
+
+  -- the order of the dumps means nothing: where no call answers 16 in one order, none does in another, and both leave the same
+  pub any-order-same-report : (report : List ℕ) (ds es : List (List ℕ)) → AllOctets ds → AllOctets es → length report ≡ 39 → fit report ≡ true → Perm ds es
+      → NonePasses longest report ds → NonePasses longest report es × (reportsLeave longest report es ≡ reportsLeave longest report ds)
+  any-order-same-report report ds es o p l f q n = order.order-means-nothing longest report ds es o p l f q n
+
   -- ==== No second answer: whatever two calls with the same input answer by their promises, and leave in a lent buffer, is the same.
 
   pub one-reading : (t : Table) (s : List ℕ) (x y : Shown) → Reads longest t s x → Reads longest t s y → x ≡ y
@@ -271,3 +353,6 @@ module _ (longest : ℕ) where
 
   pub one-writing : (lay : ℕ → ℕ → Layout) (st : St) (g : Given) (out : List ℕ) (r q : Written) (xs ys : List ℕ) → Writes lay st g out r xs → Writes lay st g out q ys → (r ≡ q) × (xs ≡ ys)
   one-writing lay st g out r q xs ys a b = (a .0 ∙ sym (b .0), a .1 ∙ sym (b .1))
+
+  pub one-adding : (report d : List ℕ) (r q : Added) (xs ys : List ℕ) → Adds longest report d r xs → Adds longest report d q ys → (r ≡ q) × (xs ≡ ys)
+  one-adding report d r q xs ys a b = (a .0 ∙ sym (b .0), a .1 ∙ sym (b .1))
