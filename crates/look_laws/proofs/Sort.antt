@@ -1,5 +1,5 @@
 -- Type and subtype say the sort of a good record, and whether it is a state change.
-use mathlib.Core.Path.{_≡_, refl, sym, ap, _∙_}
+use mathlib.Core.Path.{_≡_, refl, sym, _∙_}
 use mathlib.Core.Bool.{Bool, true, false, _||_, _&&_, false≢true}
 use mathlib.Core.Logic.{_⊎_, inl, inr, ⊎-elim}
 use mathlib.Core.List.{List}
@@ -13,7 +13,7 @@ use Rattle.page_spec.specs.Layout.{kind12, kind13, kind16, kind, finer}
 use Rattle.page_spec.specs.declared.Kind.{Kind}
 use Rattle.record_spec.specs.declared.Shown.{Shown}
 use Rattle.page_laws.proofs.Choice.{by-test, either}
-use Rattle.look_spec.specs.Sort.{Sort, unread, ofPeer, table, rib, sortOf, sortBy, isTable}
+use Rattle.look_spec.specs.Sort.{Sort, unread, ofPeer, table, rib, sortBy, isTable}
 use Rattle.look_spec.specs.Field.{changeBy}
 use Rattle.look_laws.proofs.Good.{Marked, Facts}
 

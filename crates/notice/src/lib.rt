@@ -2,7 +2,7 @@
 ghost use mathlib.Core.Path.{_≡_};
 ghost use mathlib.Core.Bool.{cond};
 ghost use mathlib.Core.List.{[]};
-ghost use Prim.Native.Nat.{_+_, _-_, _^_, _≤_, _<_};
+ghost use Prim.Native.Nat.{_+_, _-_, _^_, _<_};
 ghost use lib.ListN.{getD};
 ghost use Rattle.look_spec.specs.Field.{Known, Shows};
 ghost use Rattle.report_spec.specs.Notice.{noticeOf, InStates};
