@@ -15,12 +15,12 @@ fn fit(report: &[u64], more: [u64; 39]) -> bool
     requires { ⌜ length (now report) ≡ 39 ⌝ }
     ensures { λ r. ⌜ r ≡ fit (sums (now (report .entry)) more) ⌝ }
 {
-    let mut k = 0;
-    while k < 39 {
-        if 18446744073709551615 - more[k] < report[k] {
+    let mut i = 0;
+    while i < 39 {
+        if 18446744073709551615 - more[i] < report[i] {
             return false;
         }
-        k += 1;
+        i += 1;
     }
     true
 }

@@ -17,10 +17,10 @@ use Rattle.report_add.proofs.fit.Statement.{statement}
 use Rattle.report_add.proofs.fit.Tie as tie
 
 abbrev Inv-loop : tie.InvT-loop
-Inv-loop report more k₀ k = (k ≤ 39) × (fit (sums report more) ≡ fit (sums (drop k report) (drop k more)))
+Inv-loop report more i₀ i = (i ≤ 39) × (fit (sums report more) ≡ fit (sums (drop i report) (drop i more)))
 
 abbrev μ-loop : tie.MeasureT-loop
-μ-loop report more k₀ k = 39 - k
+μ-loop report more i₀ i = 39 - i
 
 -- the call, from a turn
 abbrev start : tie.At-loop Inv-loop μ-loop → tie.Start Inv-loop μ-loop
@@ -40,7 +40,7 @@ array-read-if1 : tie.Need-array-read-if1 Inv-loop μ-loop
 array-read-if1 c = search needs
 
 sub-if1 : tie.Need-sub-if1 Inv-loop μ-loop
-sub-if1 c = let k : tie.At-loop Inv-loop μ-loop = search needs in omega (arith, words (start k) .1 (k .loop .k))
+sub-if1 c = let k : tie.At-loop Inv-loop μ-loop = search needs in omega (arith, words (start k) .1 (k .loop .i))
 
 mul-if1-2 : tie.Need-mul-if1-2 Inv-loop μ-loop
 mul-if1-2 c = search needs
@@ -52,14 +52,14 @@ returns : tie.Need-returns Inv-loop μ-loop
 returns c =
     let k : tie.At-loop Inv-loop μ-loop = search needs in
     let s = start k .args in
-    let n = k .loop .k in
+    let n = k .loop .i in
     let w = words (start k) in
     let h : n < 39 = search needs in
     let b : ltb (getD (s .report .now) n 0 + getD (s .t2) n 0) (2 ^ 64) ≡ false = le-ltb (getD (s .report .now) n 0 + getD (s .t2) n 0) (2 ^ 64) (omega (arith, c .if1 .taken, w .1 n)) in
     sym (k .loop .inv .1 ∙ fit-from (s .report .now) (s .t2) n (omega (arith, start k .pre)) (w .0) ∙ rw b)
 
-add-k : tie.Need-add-k Inv-loop μ-loop
-add-k c = search needs
+add-i : tie.Need-add-i Inv-loop μ-loop
+add-i c = search needs
 
 loop-less : tie.Need-loop-less Inv-loop μ-loop
 loop-less c = search needs
@@ -68,7 +68,7 @@ loop-again : tie.Need-loop-again Inv-loop μ-loop
 loop-again c =
     let k : tie.At-loop Inv-loop μ-loop = search needs in
     let s = start k .args in
-    let n = k .loop .k in
+    let n = k .loop .i in
     let w = words (start k) in
     let h : n < 39 = search needs in
     let b : ltb (getD (s .report .now) n 0 + getD (s .t2) n 0) (2 ^ 64) ≡ true = lt-ltb (getD (s .report .now) n 0 + getD (s .t2) n 0) (2 ^ 64) (omega (arith, c .if1 .left, w .1 n)) in
@@ -78,9 +78,9 @@ returns-2 : tie.Need-returns-2 Inv-loop μ-loop
 returns-2 c =
     let k : tie.At-loop Inv-loop μ-loop = search needs in
     let s = start k .args in
-    let n : k .loop .k ≡ length (s .report .now) = omega (arith, k .loop .inv .0, start k .pre) in
-    let e : drop (k .loop .k) (s .report .now) ≡ [] = ap (λ (i : ℕ). drop i (s .report .now)) n ∙ drop-length (s .report .now) in
-    sym (k .loop .inv .1 ∙ ap (λ (r : List ℕ). fit (sums r (drop (k .loop .k) (s .t2)))) e)
+    let n : k .loop .i ≡ length (s .report .now) = omega (arith, k .loop .inv .0, start k .pre) in
+    let e : drop (k .loop .i) (s .report .now) ≡ [] = ap (λ (j : ℕ). drop j (s .report .now)) n ∙ drop-length (s .report .now) in
+    sym (k .loop .inv .1 ∙ ap (λ (r : List ℕ). fit (sums r (drop (k .loop .i) (s .t2)))) e)
 
 pub fit-spec : {M : Type 1} → statement M
 fit-spec =
@@ -95,7 +95,7 @@ fit-spec =
     mul-if1-2
     shared-slice-read-if1
     returns
-    add-k
+    add-i
     loop-less
     loop-again
     returns-2)
