@@ -25,6 +25,7 @@ use look::name_end;
 use look::peer_end;
 use octets::number;
 use record_spec::Table;
+use text::is_text;
 
 // ---- types 16 and 17
 
@@ -224,7 +225,9 @@ fn peer_table(m: &[u8]) -> Accepted
     }
     let many = count(m, counted);
     if peers(m, counted + 2, many) {
-        return Accepted::Table(many);
+        if is_text(&m[18..counted]) {
+            return Accepted::Table(many);
+        }
     }
     Accepted::Unsure
 }

@@ -16,6 +16,7 @@ use Rattle.octets_spec.specs.Be.{numAt}
 use Rattle.octets_laws.proofs.Be.{numAt-1}
 use Rattle.octets_laws.proofs.Rules.{inside}
 use Rattle.page_spec.specs.Names.{peerAs, localAs, interface, family, peerAddress, localAddress, oldState, newState, marker, bgpLength, bgpType, bgpRest, view, sequence, prefixBits, prefixOctets, status, originated, attributeLength, attributeOctets, entryCount, safi, collector, viewLength, viewName, peerCount, peerType, bgpId, peerIndex}
+use Rattle.text_spec.specs.Check.{isText}
 use Rattle.page_spec.specs.Tiles.{tiles}
 use Rattle.page_spec.specs.Bgp4mp.{session, addresses, state, stateChange, message, messageRest}
 use Rattle.page_spec.specs.TableDump.{tableDump, tableDumpRest}
@@ -155,7 +156,9 @@ module _ (m : List ℕ) where
       let z : i + 1 + 4 ≡ i + 5 = omega arith in
       num-runs m _ peerType 1 _ i (omega arith) (num-runs m _ bgpId 4 _ (i + 1) (omega arith) (rw (k, z) (placed-runs (getD m i 0) (i + 5) h)))
 
-  pub table-runs : (c : ℕ) → c ≡ 18 + numAt m 16 2 → c + 2 ≤ length m → Through (times (numAt m c 2) peer) m (c + 2) → Through peerTable m 12
+  pub table-runs : (c : ℕ) → c ≡ 18 + numAt m 16 2 → c + 2 ≤ length m → isText (take (c - 18) (drop 18 m)) ≡ true → Through (times (numAt m c 2) peer) m (c + 2) → Through peerTable m 12
   unfolding peerTable peerList
-  table-runs c a l r =
-      num-runs m e collector 4 _ 12 (omega arith) (num-runs m e viewLength 2 _ 16 (omega arith) (skip-runs m e viewName _ _ 18 (omega arith) (rw (← a) (num-runs m e peerCount 2 _ c l r))))
+  table-runs c a l t r =
+      let n : c - 18 ≡ numAt m 16 2 = omega arith in
+      num-runs m e collector 4 _ 12 (omega arith) (num-runs m e viewLength 2 _ 16 (omega arith)
+      (tested-runs m e viewName _ 17 _ _ 18 (omega arith) (rw n at t) (rw (← a) (num-runs m e peerCount 2 _ c l r))))

@@ -3,10 +3,10 @@ use mathlib.Core.Path.{_≡_, refl, sym, _∙_, subst}
 use mathlib.Core.Bool.{Bool, true, false, cond}
 use mathlib.Core.Logic.{_⊎_, inr, ⊎-elim}
 use mathlib.Core.List.{List}
-use Prim.Native.Nat.{ℕ, zero, suc, _+_, _≤_, _<_}
+use Prim.Native.Nat.{ℕ, zero, suc, _+_, _-_, _≤_, _<_}
 use native.Mathlib.Omega.{arith}
 use native.Mathlib.Nat.{eq-or-lt-of-le}
-use lib.ListN.{length}
+use lib.ListN.{length, take, drop}
 use borrow.Author.Tests.{le-ltb, ne-eqb}
 use Rattle.form_spec.specs.Fmt.{Fmt}
 use Rattle.form_spec.specs.Words.{choose, inRange}
@@ -36,6 +36,7 @@ use Rattle.look_spec.specs.Field.{widthOf}
 use Rattle.look_laws.proofs.Good.{facts}
 use Rattle.accept_laws.specs.Runs.{Through, WithTable}
 use Rattle.accept_spec.specs.Sure.{Leaves, Sure, Yes, microOctets}
+use Rattle.text_spec.specs.Check.{isText}
 use Rattle.accept_spec.specs.declared.Accepted.{Accepted}
 use Rattle.accept_spec.specs.declared.Accepted.the-variants as answer
 use Rattle.accept_laws.proofs.Fields.{rib-runs, table-runs}
@@ -146,10 +147,10 @@ with-table-on (Holds n) P Q f r = f n r
 
 module _ (longest : ℕ) (m : List ℕ) (t : told.Table) where
   -- a count that code has read
-  pub table-sure : (c n : ℕ) → 12 ≤ length m → c ≡ 18 + numAt m 16 2 → n ≡ numAt m c 2 → c + 2 ≤ length m → Through (times n peer) m (c + 2) → Leaves m t (shownAs longest t m chosen.PeerTable) (Holds n)
-  table-sure c n l e f h r =
+  pub table-sure : (c n : ℕ) → 12 ≤ length m → c ≡ 18 + numAt m 16 2 → n ≡ numAt m c 2 → c + 2 ≤ length m → isText (take (c - 18) (drop 18 m)) ≡ true → Through (times n peer) m (c + 2) → Leaves m t (shownAs longest t m chosen.PeerTable) (Holds n)
+  table-sure c n l e f h x r =
       let z : numAt m (18 + numAt m 16 2) 2 ≡ n = rw e at (sym f) in
-      rw z at (table-leaves longest m t l (table-runs m c e h (rw f at r)))
+      rw z at (table-leaves longest m t l (table-runs m c e h x (rw f at r)))
 
   pub rib-sure : (u : ℕ) → 2 ≤ u → u ≤ 3 → WithTable t (λ peers. Through (prefix 32 (entryList peers)) m 16) → Leaves m t (shownAs longest t m (kind13 u)) t
   unfolding kind13 choose

@@ -9,7 +9,7 @@ use lib.ListN.{length, take, drop}
 use borrow.Author.Tests.{ltb-false, leb-true, ne-eqb}
 use Rattle.form_spec.specs.Octets.{be}
 use Rattle.form_spec.specs.Fmt.{Fmt, end, test, field}
-use Rattle.form_spec.specs.Words.{choose, num, skip, checked, fail, inRange}
+use Rattle.form_spec.specs.Words.{choose, num, skip, checked, tested, fail, inRange}
 use Rattle.form_spec.specs.Pass.{Seen, note, numberOf, afterOf, pass, whole}
 use Rattle.octets_spec.specs.Be.{numAt}
 use Rattle.octets_spec.specs.Field.{fieldAt}
@@ -157,11 +157,11 @@ module _ (m : List ℕ) (P : Shown → Type 0) where
   peers-seen : (to : List Seen → Shown) (i : ℕ)
       → let at = i + 4 + 2 + numAt m (i + 4) 2 in
       (at + 2 ≤ length m → (fs : List Seen) → afterOf peerCount fs ≡ at + 2 → numberOf peerCount fs ≡ numAt m at 2 → P (to fs)) → Sees P (whole to Refused peerTable m i)
-  unfolding peerTable peerList num skip numAt
+  unfolding peerTable peerList num tested numAt
   peers-seen to i h =
       let at : ℕ = i + 4 + 2 + numAt m (i + 4) 2 in
       over _ collector 4 0 _ i λ x1. over _ viewLength 2 0 _ (i + 4) λ x2. over _ viewName (numAt m (i + 4) 2) 0 _ (i + 4 + 2) λ x3.
-      over _ peerCount 2 0 _ at λ x4. rest _ _ (at + 2) λ fs. h x4 _ refl refl
+      past _ _ _ _ at (over _ peerCount 2 0 _ at λ x4. rest _ _ (at + 2) λ fs. h x4 _ refl refl)
 
   -- behind microseconds, where there are some
   behind-seen : 12 ≤ length m → (micro : ℕ) (k : ℕ → ℕ → Shown) → (12 + micro ≤ length m → Sees P (k (choose (eqb micro 0) 0 (numAt m 12 micro)) (12 + micro))) → Sees P (behind (microAt m micro) k)

@@ -93,7 +93,7 @@ unfolding peer num Inside
 in-peer i = (omega arith, λ t. (omega arith, λ b. by-test (eqb (be t % 2) 1) _ _ _ (in-peer-sized 16 (be t) _) (in-peer-sized 4 (be t) _)))
 
 in-table : (i : ℕ) → Inside (tableHead (end 0)) i
-unfolding num skip Inside
+unfolding num tested Inside
 in-table i = omega arith
 
 -- ---- whatever the Type and the Subtype

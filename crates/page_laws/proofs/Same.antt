@@ -7,7 +7,7 @@ use lib.Dec.{leb}
 use lib.ListN.{length, drop}
 use Rattle.form_spec.specs.Octets.{Octets, be}
 use Rattle.form_spec.specs.Fmt.{bad, Fmt, end, test, field, read}
-use Rattle.form_spec.specs.Words.{choose, num, skip, checked, inRange}
+use Rattle.form_spec.specs.Words.{choose, num, skip, checked, tested, inRange}
 use Rattle.form_spec.specs.Body.{many, readBody}
 use Rattle.form_spec.specs.Shape.{entries, St, noTable, withPeers, plan}
 use Rattle.form_spec.specs.Pass.{Seen, pass, whole, _⨾_}
@@ -48,7 +48,7 @@ generic-then peers =
 
 -- and so is a peer table
 pub table-then : peerTable ≡ tableHead (end 0) ⨾ peerList
-unfolding peerTable num skip _⨾_
+unfolding peerTable num tested _⨾_
 table-then = refl
 
 -- ---- a contract's `whole` is the reading of the body that the type and subtype lay out

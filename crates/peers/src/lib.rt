@@ -2,16 +2,18 @@
 ghost use mathlib.Core.Path.{_≡_};
 ghost use Prim.Native.Nat.{_≤_};
 ghost use Rattle.form_spec.specs.Pass.{pass, whole, times, numberOf};
-ghost use Rattle.page_spec.specs.Peers.{peerRest, peerSized, peer, peerTable};
-ghost use Rattle.record_spec.specs.Fields.{partOf};
+ghost use Rattle.page_spec.specs.Peers.{peerRest, peerSized, peer, peerList, peerTable};
+ghost use Rattle.record_spec.specs.Fields.{partOf, peersOf};
 ghost use Rattle.record_spec.specs.Fields as show;
 ghost use Rattle.record_spec.specs.Answer.{peerFault, peerEnd};
 ghost use Rattle.record_spec.specs.Items.{peerAt, Finds};
 ghost use Rattle.page_spec.specs.Names.{peerAs, peerAddress};
-ghost use Rattle.record_spec.specs.declared.Shown.the-variants.{Refused};
+ghost use Rattle.record_spec.specs.declared.Shown.the-variants.{Good, Refused};
+ghost use Rattle.record_spec.specs.declared.Body.the-variants.{PeerTable};
 ghost use Rattle.record_spec.specs.declared.Peer.the-variants.{Of, Bad};
 use octets::field;
 use octets::left;
+use octets::part;
 use octets::skip;
 use octets_spec::Num;
 use octets_spec::Room;
@@ -21,6 +23,7 @@ use record_spec::Part;
 use record_spec::Peer;
 use record_spec::Peers;
 use record_spec::Shown;
+use text::is_text;
 
 fn peer_rest(m: &[u8], at: usize, size: usize, width: usize, kind: u64, id: u64) -> Peer
     requires { ⌜ width ≤ 8 ⌝ }
@@ -83,6 +86,25 @@ pub fn peers_at(m: &[u8], from: usize, count: u64, s: Shown) -> Shown
     s
 }
 
+// The count at `at`, so many peers, and nothing behind them.
+fn counted_at(m: &[u8], at: usize, h: Header, collector: u64, name: Part) -> Shown
+    ensures { λ r. ⌜ r ≡ whole (λ fs. Good h (PeerTable (peersOf collector name (now (m .entry)) fs))) Refused peerList (now (m .entry)) at ⌝ }
+{
+    let Num::Value(count, a) = field(m, at, 2) else {
+        return Shown::Refused(5, at);
+    };
+    let table = Peers {
+        collector,
+        name,
+        count,
+        peers: Part {
+            at: a,
+            size: left(m, a),
+        },
+    };
+    peers_at(m, a, count, Shown::Good(h, Body::PeerTable(table)))
+}
+
 // A peer table's message that starts at `at` and ends where m ends.
 pub fn peer_table(m: &[u8], at: usize, h: Header) -> Shown
     ensures { λ r. ⌜ r ≡ whole (show.peerTable h (now (m .entry))) Refused peerTable (now (m .entry)) at ⌝ }
@@ -93,23 +115,12 @@ pub fn peer_table(m: &[u8], at: usize, h: Header) -> Shown
     let Num::Value(n, b) = field(m, a, 2) else {
         return Shown::Refused(5, a);
     };
-    let Room::To(d) = skip(m, b, n as usize) else {
+    let size = n as usize;
+    let Room::To(d) = skip(m, b, size) else {
         return Shown::Refused(5, b);
     };
-    let Num::Value(count, e) = field(m, d, 2) else {
-        return Shown::Refused(5, d);
-    };
-    let table = Peers {
-        collector,
-        name: Part {
-            at: b,
-            size: n as usize,
-        },
-        count,
-        peers: Part {
-            at: e,
-            size: left(m, e),
-        },
-    };
-    peers_at(m, e, count, Shown::Good(h, Body::PeerTable(table)))
+    if is_text(part(m, b, size)) {
+        return counted_at(m, d, h, collector, Part { at: b, size });
+    }
+    Shown::Refused(17, b)
 }

@@ -114,7 +114,7 @@ route-full size v s prefix b t o address p a e h =
 
 table-full : (c : ℕ) (name : List ℕ) → Fit (digits 4 c ∷ digits 2 (length name) ∷ bytes name ∷ []) → Full (tableHead (end 0)) (digits 4 c ∷ digits 2 (length name) ∷ bytes name ∷ [])
 unfolding Full
-table-full c name h = num-full _ 4 c _ _ h λ h. num-full _ 2 (length name) _ _ h λ h. skip-full _ (length name) _ name _ refl tt
+table-full c name h = num-full _ 4 c _ _ h λ h. num-full _ 2 (length name) _ _ h λ h. tested-full _ (length name) _ 17 _ name _ refl tt
 
 -- as many octets as the bits need; where the bits are too many for any prefix that is the fault
 abbrev pub Octeted : (bits : ℕ) (prefix : List ℕ) → Type 0

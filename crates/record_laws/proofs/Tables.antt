@@ -8,7 +8,7 @@ use lib.Dec.{leb}
 use lib.ListN.{length, take, drop, length-append}
 use Rattle.form_spec.specs.Octets.{be, toBe}
 use Rattle.form_spec.specs.Fmt.{Fmt, end, test, field, read, Fits, join}
-use Rattle.form_spec.specs.Words.{num, skip, checked, inRange}
+use Rattle.form_spec.specs.Words.{num, skip, checked, tested, inRange}
 use Rattle.form_spec.specs.Body.{joins, many, listed, readBody, spell}
 use Rattle.form_spec.specs.Shape.{St, noTable, withPeers, plan, microsIn}
 use Rattle.form_spec.specs.Pass.{Seen, note, whole, _⨾_, counted}
@@ -81,9 +81,9 @@ module _ (longest : ℕ) (s m q : List ℕ) (t y u len : ℕ) (l : Stands s m q 
         (by-parts s f 12 (Shows its) (parts its) cs (toBe 2 (length its) ++ joins its ++ q) (sym (append-assoc (join cs) (toBe 2 (length its) ++ joins its) q) ∙ rw e (l .here)) h n e)))
 
   table-parts : y ≡ 13 → u ≡ 1 → (its : List (List (List ℕ))) → Parts s (tableHead (end 0)) 12 (Shows peerCount peer (show.peerTable (head t y u len 0) m) its)
-  unfolding Parts seen num skip
+  unfolding Parts seen num tested
   table-parts e d its =
-      λ c hc v hv n hn small o.
+      λ c hc v hv n hn text small o.
       record {
         stamp = refl;
         type = sym e;

@@ -18,6 +18,7 @@ use octets::put_number;
 use peers::peers_at;
 use record_spec::Shown;
 use room_spec::Written;
+use text::is_text;
 use write::add;
 use write::put_head;
 use write::verdict;
@@ -44,7 +45,10 @@ fn front_refusal(collector: u64, name: &[u8]) -> u8
     if large(name.len() as u64, 2) {
         return 6;
     }
-    0
+    if is_text(name) {
+        return 0;
+    }
+    17
 }
 
 // The number for all but the Length and the room.

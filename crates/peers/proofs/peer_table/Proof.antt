@@ -1,6 +1,5 @@
--- A peer table. The last return: the size of its peers is what a call answered.
-use Rattle.form_spec.specs.Pass.{pass}
-use Rattle.page_spec.specs.Peers.{peerTable, peerList}
+-- A peer table.
+use Rattle.page_spec.specs.Peers.{peerTable}
 use Rattle.octets_laws.proofs.Rules.{flow}
 use borrow.Author.Needs.{needs}
 use Rattle.peers.proofs.peer_table.Statement.{statement}
@@ -16,7 +15,7 @@ enum-told : tie.Need-enum-told
 enum-told c = search needs
 
 returns : tie.Need-returns
-unfolding peerTable peerList
+unfolding peerTable
 returns c = search flow depth 12
 
 field-requires-2 : tie.Need-field-requires-2
@@ -29,7 +28,7 @@ enum-told-2 : tie.Need-enum-told-2
 enum-told-2 c = search needs
 
 returns-2 : tie.Need-returns-2
-unfolding peerTable peerList
+unfolding peerTable
 returns-2 c = search flow depth 12
 
 skip-requires : tie.Need-skip-requires
@@ -42,31 +41,25 @@ enum-told-3 : tie.Need-enum-told-3
 enum-told-3 c = search needs
 
 returns-3 : tie.Need-returns-3
-unfolding peerTable peerList
+unfolding peerTable
 returns-3 c = search flow depth 12
 
-field-requires-3 : tie.Need-field-requires-3
-field-requires-3 c κs = search needs
+part-requires : tie.Need-part-requires
+part-requires c κs = search needs
 
-enum-known-count : tie.Need-enum-known-count
-enum-known-count c = search needs
+is-text-requires : tie.Need-is-text-requires
+is-text-requires c κs = search needs
 
-enum-told-4 : tie.Need-enum-told-4
-enum-told-4 c = search needs
+counted-at-requires : tie.Need-counted-at-requires
+counted-at-requires c κs = search needs
 
 returns-4 : tie.Need-returns-4
-unfolding peerTable peerList
+unfolding peerTable
 returns-4 c = search flow depth 12
 
-left-requires : tie.Need-left-requires
-left-requires c κs = search needs
-
-peers-at-requires : tie.Need-peers-at-requires
-peers-at-requires c κs = search needs
-
 returns-5 : tie.Need-returns-5
-unfolding peerTable peerList pass
-returns-5 c = let h = rw (c .before .left .ensures) at (c .peers-at .ensures) in search flow depth 12
+unfolding peerTable
+returns-5 c = search flow depth 12
 
 pub peer-table-spec : {M : Type 1} → statement M
 peer-table-spec =
@@ -84,10 +77,8 @@ peer-table-spec =
     enum-known-d
     enum-told-3
     returns-3
-    field-requires-3
-    enum-known-count
-    enum-told-4
+    part-requires
+    is-text-requires
+    counted-at-requires
     returns-4
-    left-requires
-    peers-at-requires
     returns-5)

@@ -16,9 +16,23 @@ large-requires-2 c κs = search needs
 returns-2 : tie.Need-returns-2
 returns-2 c = search put-flow depth 12
 
+is-text-requires : tie.Need-is-text-requires
+is-text-requires c κs = search needs
+
 returns-3 : tie.Need-returns-3
 returns-3 c = search put-flow depth 12
 
+returns-4 : tie.Need-returns-4
+returns-4 c = search put-flow depth 12
+
 pub front-refusal-spec : {M : Type 1} → statement M
 front-refusal-spec =
-    tie.close (tie.spec large-requires returns large-requires-2 returns-2 returns-3)
+    tie.close
+    (tie.spec
+    large-requires
+    returns
+    large-requires-2
+    returns-2
+    is-text-requires
+    returns-3
+    returns-4)
