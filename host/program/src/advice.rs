@@ -144,6 +144,13 @@ const HINTS: [Hint; Fault::ALL.len()] = [
         cause: "an error in this program: it counts from zero, and no files hold so many records.",
         remedy: "report it, with the order that was given; fewer recordings at once may do.",
     },
+    Hint {
+        fault: Fault::ViewName,
+        cause: "a view that the collector's configuration names in Latin-1 or another encoding \
+                than UTF-8; damage.",
+        remedy: "name the view in ASCII or UTF-8 at the collector and dump again; else keep the \
+                 part before, or use a dump of updates, which has no view name.",
+    },
 ];
 
 #[cfg(test)]
