@@ -40,7 +40,8 @@ enum dagsumilat_fault {
     DAGSUMILAT_PEER_INDEX = 13,        /* an entry that names no peer of the table in force */
     DAGSUMILAT_WINDOW = 14,            /* a window whose start is after its end */
     DAGSUMILAT_ROOM = 15,              /* what is to be written is longer than `out` */
-    DAGSUMILAT_REPORT = 16             /* a number of the report passes 64 bits */
+    DAGSUMILAT_REPORT = 16,            /* a number of the report passes 64 bits */
+    DAGSUMILAT_VIEW_NAME = 17          /* a peer table's view name that is not UTF-8 text (RFC 3629) */
 };
 
 /* No table in force; no peer AS. */
@@ -49,7 +50,7 @@ enum dagsumilat_fault {
 /*
  * Checks a whole dump.
  *
- * answer[0]  0, or the first faulty record's number, 1 to 13
+ * answer[0]  0, or the first faulty record's number, 1 to 13 or 17
  * answer[1]  the dump's length, or where the faulty record starts
  * answer[2]  how many good records stand before
  */
@@ -85,7 +86,7 @@ void dagsumilat_cut(const uint8_t *dump, size_t dump_len, uint64_t from, uint64_
  * The record that starts at `at`. To go through a dump, begin with at = 0 and table = DAGSUMILAT_NONE, and hand over answer[1] and
  * answer[2] in the next call, while at < dump_len and answer[0] is 0.
  *
- * answer[0]  0, or the record's fault, 1 to 13
+ * answer[0]  0, or the record's fault, 1 to 13 or 17
  * answer[1]  where the next record starts; `at` on a fault, and where at >= dump_len
  * answer[2]  the table in force behind the record: its number of peers, or DAGSUMILAT_NONE
  * answer[3]  time
@@ -147,7 +148,7 @@ enum dagsumilat_kind {
  * A part is two words: where it lies, counted from the record's header, and its size. An empty part has the offset where it would lie.
  * All words that a kind does not have are 0; on a fault, and where there are no octets, all but answer[0].
  *
- * answer[0]   0, or the record's fault, 1 to 13
+ * answer[0]   0, or the record's fault, 1 to 13 or 17
  * answer[1]   where the record ends, 12 more than Length
  * answer[2]   kind
  * answer[3]   Timestamp
@@ -170,8 +171,8 @@ enum dagsumilat_kind {
  * answer[18]             attributes                                                                  its type octet
  * answer[19]              .. size
  *
- * A prefix length is in bits. Peers and entries are gone through by dagsumilat_peer and dagsumilat_entry. A BGP message starts with
- * its marker.
+ * A prefix length is in bits. A view name is UTF-8 text (RFC 3629); it may be empty or hold zeros, and no zero ends it. Peers and
+ * entries are gone through by dagsumilat_peer and dagsumilat_entry. A BGP message starts with its marker.
  */
 void dagsumilat_read(const uint8_t *record, size_t record_len, uint64_t table, uint64_t answer[20]);
 
@@ -200,7 +201,10 @@ void dagsumilat_write_table_dump(uint64_t timestamp, uint64_t subtype, uint64_t 
                                  const uint8_t *peer_address, size_t peer_address_len, uint64_t peer_as, const uint8_t *attributes,
                                  size_t attributes_len, uint8_t *out, size_t out_len, uint64_t answer[2]);
 
-/* Type 13, subtype 1. The peers are handed over laid out, with their count. */
+/*
+ * Type 13, subtype 1. A name of more than 65,535 octets gives 6, then one that is not UTF-8 text 17; no zero need end it. The peers are
+ * handed over laid out, with their count.
+ */
 void dagsumilat_write_peer_table(uint64_t timestamp, uint64_t collector_id, const uint8_t *name, size_t name_len, uint64_t count,
                                  const uint8_t *peers, size_t peers_len, uint8_t *out, size_t out_len, uint64_t answer[2]);
 

@@ -22,11 +22,12 @@ pub enum Fault {
     Window = 14,
     Room = 15,
     Report = 16,
+    ViewName = 17,
 }
 
 impl Fault {
     /// All of them, by rising number.
-    pub const ALL: [Fault; 16] = [
+    pub const ALL: [Fault; 17] = [
         Fault::HeaderIncomplete,
         Fault::LengthPastEnd,
         Fault::Type,
@@ -43,6 +44,7 @@ impl Fault {
         Fault::Window,
         Fault::Room,
         Fault::Report,
+        Fault::ViewName,
     ];
 
     /// The fault of a number; none for 0 and for numbers that no fault has.
@@ -52,7 +54,7 @@ impl Fault {
     ///
     /// assert_eq!(Fault::of_number(9), Some(Fault::State));
     /// assert_eq!(Fault::of_number(0), None);
-    /// assert_eq!(Fault::of_number(17), None);
+    /// assert_eq!(Fault::of_number(18), None);
     /// ```
     pub fn of_number(number: u64) -> Option<Fault> {
         let index = usize::try_from(number).ok()?.checked_sub(1)?;
@@ -61,7 +63,7 @@ impl Fault {
 
     /// Reads the first number of an answer: 0 refuses nothing.
     pub(crate) fn of_answer(number: u64) -> Option<Fault> {
-        (number != 0).then(|| Fault::of_number(number).expect("the calls answer 0 to 16"))
+        (number != 0).then(|| Fault::of_number(number).expect("the calls answer 0 to 17"))
     }
 
     pub fn number(self) -> u8 {
@@ -86,6 +88,7 @@ impl Fault {
             Fault::Window => "backward window",
             Fault::Room => "no room",
             Fault::Report => "report too large",
+            Fault::ViewName => "view name",
         }
     }
 
@@ -112,6 +115,7 @@ impl Fault {
             Fault::Window => "the window's start is after its end",
             Fault::Room => "what is to be written is longer than the room for it",
             Fault::Report => "a number of the report passes 64 bits",
+            Fault::ViewName => "a peer table's view name is not UTF-8 text",
         }
     }
 }

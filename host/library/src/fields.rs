@@ -2,6 +2,8 @@
 //!
 //! Parts lie in the caller's octets. Prefix lengths are in bits.
 
+use std::str::{self, Utf8Error};
+
 /// When a record was made.
 #[derive(Clone, Copy, Debug, PartialEq, Eq, Hash)]
 pub struct Time {
@@ -43,11 +45,33 @@ pub struct TableDump<'a> {
 pub struct PeerTable<'a> {
     pub timestamp: u32,
     pub collector_id: u32,
+    /// The view name in UTF-8 (RFC 3629); it may be empty. See [`PeerTable::name_text`].
     pub name: &'a [u8],
     /// How many peers there are.
     pub count: u16,
     /// The peers, one after another, as the record lays them out.
     pub peers: &'a [u8],
+}
+
+impl<'a> PeerTable<'a> {
+    /// The view name as text. Every table that was read has it; of a name from elsewhere the error
+    /// says where it stops being text. It may hold control characters, which a terminal obeys.
+    ///
+    /// ```
+    /// use dagsumilat::{read, Fields};
+    ///
+    /// // A table without peers, of the view "Zürich".
+    /// let mut octets = vec![0, 0, 0, 1, 0, 13, 0, 1, 0, 0, 0, 15, 192, 0, 2, 254, 0, 7];
+    /// octets.extend("Zürich".as_bytes());
+    /// octets.extend([0, 0]);
+    ///
+    /// let found = read(&octets, None).unwrap().unwrap();
+    /// let Fields::PeerTable(table) = found.fields else { panic!() };
+    /// assert_eq!(table.name_text(), Ok("Zürich"));
+    /// ```
+    pub fn name_text(&self) -> Result<&'a str, Utf8Error> {
+        str::from_utf8(self.name)
+    }
 }
 
 /// Type 13, Subtypes 2 to 5: all routes to one prefix.

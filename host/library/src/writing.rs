@@ -107,7 +107,20 @@ impl TableDump<'_> {
 }
 
 impl PeerTable<'_> {
-    /// Writes the record: see [`Fields::write`].
+    /// Writes the record: see [`Fields::write`]. A name of more than 65,535 octets is
+    /// [`Fault::OctetsLeft`], then one that is not UTF-8 text [`Fault::ViewName`].
+    ///
+    /// ```
+    /// use dagsumilat::{Fault, PeerTable};
+    ///
+    /// let name = "Zürich".as_bytes();
+    /// let table = PeerTable { timestamp: 1, collector_id: 9, name, count: 0, peers: &[] };
+    /// let mut out = [0; 27];
+    /// assert_eq!(table.write(&mut out), Ok(27));
+    ///
+    /// let latin = PeerTable { name: b"Z\xfcrich", ..table };
+    /// assert_eq!(latin.write(&mut out), Err(Fault::ViewName));
+    /// ```
     pub fn write(&self, out: &mut [u8]) -> Result<usize, Fault> {
         let given = writers::PeerTable {
             timestamp: self.timestamp.into(),

@@ -1,12 +1,14 @@
 //! A fault in words: what it means, what it often comes from, and what a person can do.
 
+use crate::view_name;
 use dagsumilat::{Fault, Refusal};
 
 /// The words for a dump's fault; `records` good ones stand before it.
-pub fn dump_refused(name: &str, refusal: Refusal, records: u64) -> String {
+pub fn dump_refused(name: &str, dump: &[u8], refusal: Refusal, records: u64) -> String {
     let Refusal { fault, place } = refusal;
     let (number, words) = (fault.number(), fault.words());
     let Hint { cause, remedy, .. } = hint(fault);
+    let seen = seen(dump, refusal).map(|seen| format!("\n  {seen}")).unwrap_or_default();
     let before = match place {
         0 => "No good record stands before it.".to_string(),
         _ => format!(
@@ -15,20 +17,28 @@ pub fn dump_refused(name: &str, refusal: Refusal, records: u64) -> String {
         ),
     };
     format!(
-        "{name}: fault {number} at octet {place} (0x{place:x}): {words}\n  \
+        "{name}: fault {number} at octet {place} (0x{place:x}): {words}{seen}\n  \
          {before}\n  Often: {cause}\n  To do: {remedy}"
     )
 }
 
+/// What stands in the dump where number and place alone do not say enough.
+fn seen(dump: &[u8], refusal: Refusal) -> Option<String> {
+    match refusal.fault {
+        Fault::ViewName => view_name::told(dump, refusal.place),
+        _ => None,
+    }
+}
+
 /// The words for a dump that is not in the report. A sum past 64 bits is not the dump's own fault.
-pub fn report_refused(name: &str, refusal: Refusal, records: u64) -> String {
+pub fn report_refused(name: &str, dump: &[u8], refusal: Refusal, records: u64) -> String {
     match refusal.fault {
         Fault::Report => {
             let (number, words) = (refusal.fault.number(), refusal.fault.words());
             let Hint { cause, remedy, .. } = hint(refusal.fault);
             format!("{name}: fault {number}: {words}\n  Often: {cause}\n  To do: {remedy}")
         }
-        _ => dump_refused(name, refusal, records),
+        _ => dump_refused(name, dump, refusal, records),
     }
 }
 
@@ -144,6 +154,13 @@ const HINTS: [Hint; Fault::ALL.len()] = [
         cause: "an error in this program: it counts from zero, and no files hold so many records.",
         remedy: "report it, with the order that was given; fewer recordings at once may do.",
     },
+    Hint {
+        fault: Fault::ViewName,
+        cause: "a view that the collector's configuration names in Latin-1 or another encoding \
+                than UTF-8; damage.",
+        remedy: "name the view in ASCII or UTF-8 at the collector and dump again; else keep the \
+                 part before, or use a dump of updates, which has no view name.",
+    },
 ];
 
 #[cfg(test)]
@@ -153,7 +170,7 @@ mod tests {
     #[test]
     fn a_fault_is_told_with_number_and_place() {
         let refusal = Refusal { fault: Fault::State, place: 1234 };
-        let words = dump_refused("a.mrt", refusal, 12);
+        let words = dump_refused("a.mrt", &[], refusal, 12);
         assert!(
             words.starts_with("a.mrt: fault 9 at octet 1234 (0x4d2): a state change"),
             "{words}"
@@ -170,16 +187,26 @@ mod tests {
     #[test]
     fn a_report_too_large_has_no_place_in_the_dump() {
         let refusal = Refusal { fault: Fault::Report, place: 0 };
-        let words = report_refused("a.mrt", refusal, 12);
+        let words = report_refused("a.mrt", &[], refusal, 12);
         assert!(words.starts_with("a.mrt: fault 16: a number of the report"), "{words}");
         assert!(!words.contains("octet"), "{words}");
         let refusal = Refusal { fault: Fault::State, place: 32 };
-        assert_eq!(report_refused("a", refusal, 1), dump_refused("a", refusal, 1));
+        assert_eq!(report_refused("a", &[], refusal, 1), dump_refused("a", &[], refusal, 1));
+    }
+
+    #[test]
+    fn only_a_view_name_is_shown() {
+        let dump = b"\0\0\0\x01\0\x0d\0\x01\0\0\0\x0c\xc0\0\x02\xfe\0\x04caf\xe9\0\0";
+        let words = |fault| dump_refused("a.mrt", dump, Refusal { fault, place: 0 }, 0);
+        let told = words(Fault::ViewName);
+        let second = told.lines().nth(1).unwrap();
+        assert!(second.starts_with("  The name is \"caf\\xE9\""), "{told}");
+        assert!(!words(Fault::OctetsLeft).contains("caf"));
     }
 
     #[test]
     fn nothing_is_kept_of_a_dump_that_starts_with_a_fault() {
-        let words = dump_refused("a.mrt", Refusal { fault: Fault::Type, place: 0 }, 0);
+        let words = dump_refused("a.mrt", &[], Refusal { fault: Fault::Type, place: 0 }, 0);
         assert!(words.contains("No good record"), "{words}");
         assert!(!words.contains("head -c"), "{words}");
     }

@@ -20,6 +20,7 @@ mod session_table;
 mod show;
 mod stop;
 mod tally;
+mod view_name;
 mod words;
 
 use arguments::Request;

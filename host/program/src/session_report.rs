@@ -29,7 +29,7 @@ fn add(total: &mut Report, reading: &Reading) -> Result<(), Stop> {
     total.add(&dump).map_err(|refusal| {
         let name = reading.source.name().display().to_string();
         let records = dagsumilat::check(&dump).records;
-        Stop::Refused(advice::report_refused(&name, refusal, records))
+        Stop::Refused(advice::report_refused(&name, &dump, refusal, records))
     })
 }
 

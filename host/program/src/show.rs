@@ -15,12 +15,12 @@ fn read(reading: &Reading) -> Result<Vec<u8>, Stop> {
 }
 
 /// Ends a command: a fault, where there is one, is told last.
-fn end(reading: &Reading, refusal: Option<Refusal>, records: u64) -> Result<(), Stop> {
+fn end(reading: &Reading, dump: &[u8], refusal: Option<Refusal>, records: u64) -> Result<(), Stop> {
     match refusal {
         None => Ok(()),
         Some(refusal) => {
             let name = reading.source.name().display().to_string();
-            Err(Stop::Refused(advice::dump_refused(&name, refusal, records)))
+            Err(Stop::Refused(advice::dump_refused(&name, dump, refusal, records)))
         }
     }
 }
@@ -30,7 +30,7 @@ pub fn list(reading: &Reading) -> Result<(), Stop> {
     let mut out = BufWriter::with_capacity(BUFFER, io::stdout().lock());
     let listed = write_list(&dump, &mut out).and_then(|listed| out.flush().map(|()| listed));
     let (refusal, count) = listed.map_err(|error| Stop::printing(&error))?;
-    end(reading, refusal, count)
+    end(reading, &dump, refusal, count)
 }
 
 fn write_list(dump: &[u8], out: &mut impl Write) -> io::Result<(Option<Refusal>, u64)> {
@@ -58,7 +58,7 @@ fn write_list(dump: &[u8], out: &mut impl Write) -> io::Result<(Option<Refusal>,
 pub fn check(reading: &Reading) -> Result<(), Stop> {
     let dump = read(reading)?;
     let check = dagsumilat::check(&dump);
-    end(reading, check.refusal, check.records)?;
+    end(reading, &dump, check.refusal, check.records)?;
     let (name, records, octets) = (reading.source.name().display(), check.records, dump.len());
     let mut out = io::stdout().lock();
     writeln!(out, "{name}: good, {records} records, {octets} octets")
@@ -66,11 +66,12 @@ pub fn check(reading: &Reading) -> Result<(), Stop> {
 }
 
 pub fn peers(reading: &Reading) -> Result<(), Stop> {
-    let tally = Tally::of(&read(reading)?);
+    let dump = read(reading)?;
+    let tally = Tally::of(&dump);
     let mut out = BufWriter::with_capacity(BUFFER, io::stdout().lock());
     let written = write_peers(&tally, &mut out).and_then(|()| out.flush());
     written.map_err(|error| Stop::printing(&error))?;
-    end(reading, tally.refusal, tally.records())
+    end(reading, &dump, tally.refusal, tally.records())
 }
 
 fn write_peers(tally: &Tally, out: &mut impl Write) -> io::Result<()> {

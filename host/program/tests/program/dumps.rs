@@ -19,7 +19,13 @@ pub fn record(time: u32, kind: u16, subtype: u16, message: &[u8]) -> Vec<u8> {
 
 /// A peer table of IPv4 peers with 4-octet AS numbers, without a view name.
 pub fn table(time: u32, numbers: &[u32]) -> Vec<u8> {
-    let mut message = vec![192, 0, 2, 254, 0, 0];
+    named_table(time, &[], numbers)
+}
+
+pub fn named_table(time: u32, name: &[u8], numbers: &[u32]) -> Vec<u8> {
+    let mut message = vec![192, 0, 2, 254];
+    message.extend((name.len() as u16).to_be_bytes());
+    message.extend(name);
     message.extend((numbers.len() as u16).to_be_bytes());
     for number in numbers {
         message.extend([2, 192, 0, 2, 1, 192, 0, 2, 1]);

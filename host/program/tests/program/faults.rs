@@ -1,13 +1,17 @@
 //! Every fault is told with its number and place, by every command, with exit status 1.
 
-use crate::dumps::{change, message, record, rib, session, table, table_dump};
+use crate::dumps::{change, message, named_table, record, rib, session, table, table_dump};
 use crate::run::{run, Folder};
 
 /// A good record stands before each fault.
 const BEFORE: usize = 32;
 
-/// A dump for each fault of a dump, 1 to 13.
-fn faulty() -> Vec<Vec<u8>> {
+/// A dump for each fault of a dump, 1 to 13 and 17, with its number.
+fn faulty() -> impl Iterator<Item = (usize, Vec<u8>)> {
+    (1..).zip(faulty_to_13()).chain([(17, named_table(1, b"caf\xe9", &[10, 20]))])
+}
+
+fn faulty_to_13() -> Vec<Vec<u8>> {
     let states = |old, new| [session(64_500), vec![0, old, 0, new]].concat();
     let mut family = states(3, 4);
     family[7] = 3;
@@ -58,11 +62,11 @@ fn assert_told(folder: &Folder, file: &str, number: usize) {
 #[test]
 fn faults_of_a_dump() {
     let folder = Folder::new("faults");
-    for (index, octets) in faulty().into_iter().enumerate() {
+    for (number, octets) in faulty() {
         let good = change(1, 64_496);
         assert_eq!(good.len(), BEFORE);
         let file = folder.file("dump", &[good, octets].concat());
-        assert_told(&folder, &file, index + 1);
+        assert_told(&folder, &file, number);
     }
     assert_eq!(folder.names(), ["dump"], "no clip and nothing left over");
 }

@@ -7,6 +7,7 @@ mod damage;
 mod dumps;
 mod faults;
 mod files;
+mod names;
 mod reports;
 mod run;
 mod shown;

@@ -1,0 +1,109 @@
+//! A view name that is no text, shown so that a person sees which octets are in the way.
+
+use std::str;
+
+/// Of a long name, as many characters are shown before the first octet that is not text, and as
+/// many from there on.
+const SHOWN: usize = 40;
+
+/// Where the name's length stands in a peer table, counted from its header: behind the collector's
+/// ID. The name follows.
+const LENGTH: usize = 16;
+const NAME: usize = LENGTH + 2;
+
+/// The words for the name of the peer table at `place`; none if it is text, or not there.
+pub fn told(dump: &[u8], place: usize) -> Option<String> {
+    let name = name(dump, place)?;
+    let good = str::from_utf8(name).err()?.valid_up_to();
+    let (shown, size, at) = (shown(name, good), name.len(), place + NAME + good);
+    Some(format!(
+        "The name is {shown}, {size} octet(s); the first that is not text is at octet {at} \
+         (0x{at:x})."
+    ))
+}
+
+fn name(dump: &[u8], place: usize) -> Option<&[u8]> {
+    let table = dump.get(place..)?;
+    let size = table.get(LENGTH..)?.first_chunk().copied().map(u16::from_be_bytes)?;
+    table.get(NAME..)?.get(..size.into())
+}
+
+/// In quotation marks; dots stand for what is left out. The first `good` octets are text.
+fn shown(name: &[u8], good: usize) -> String {
+    let (before, rest) = (pieces(&name[..good]), pieces(&name[good..]));
+    let (from, to) = (before.len().saturating_sub(SHOWN), rest.len().min(SHOWN));
+    let dots = |left_out| if left_out { "..." } else { "" };
+    let (earlier, later) = (dots(from > 0), dots(to < rest.len()));
+    format!("{earlier}\"{}{}\"{later}", before[from..].concat(), rest[..to].concat())
+}
+
+/// One piece for each character and for each octet that belongs to none. A terminal would obey
+/// control characters: they are spelled out.
+fn pieces(name: &[u8]) -> Vec<String> {
+    let mut pieces = Vec::new();
+    for chunk in name.utf8_chunks() {
+        pieces.extend(chunk.valid().chars().map(|letter| letter.escape_debug().to_string()));
+        pieces.extend(chunk.invalid().iter().map(|octet| format!("\\x{octet:02X}")));
+    }
+    pieces
+}
+
+#[cfg(test)]
+mod tests {
+    use super::*;
+
+    /// A peer table without peers behind 5 other octets.
+    fn dump(name: &[u8]) -> Vec<u8> {
+        let mut dump = vec![0xff; 5 + LENGTH];
+        dump.extend((name.len() as u16).to_be_bytes());
+        dump.extend(name);
+        dump.extend([0, 0]);
+        dump
+    }
+
+    fn told_of(name: &[u8]) -> String {
+        told(&dump(name), 5).unwrap()
+    }
+
+    #[test]
+    fn the_first_bad_octet_is_named() {
+        let words = told_of("Zürich caf\u{e9}".as_bytes().strip_suffix(&[0xa9]).unwrap());
+        let expected = "The name is \"Zürich caf\\xC3\", 12 octet(s); \
+                        the first that is not text is at octet 34 (0x22).";
+        assert_eq!(words, expected);
+        assert!(told_of(b"\xe9").starts_with("The name is \"\\xE9\", 1 octet(s); "));
+        assert!(told_of(b"a\xf0\x80\x80\x80b").contains("\"a\\xF0\\x80\\x80\\x80b\""));
+        assert!(told_of(b"\xed\xa0\x80").ends_with(" at octet 23 (0x17)."));
+    }
+
+    #[test]
+    fn nothing_is_obeyed_by_a_terminal() {
+        let words = told_of(b"\0\n\x1b[2J\x7f\x9b\xc2\x9b\xe2\x80\xae\"\\\xff");
+        assert!(!words.contains(char::is_control), "{words:?}");
+        let name = r#""\0\n\u{1b}[2J\u{7f}\x9B\u{9b}\u{202e}\"\\\xFF""#;
+        assert!(words.contains(name), "{words}");
+    }
+
+    #[test]
+    fn of_a_long_name_the_bad_octet_is_shown() {
+        let name = ["é".repeat(30_000).as_bytes(), b"\xff", &[b'z'; 5_000]].concat();
+        let words = told_of(&name);
+        let (before, behind) = ("é".repeat(SHOWN), "z".repeat(SHOWN - 1));
+        assert!(words.contains(&format!(" ...\"{before}\\xFF{behind}\"..., 65001 ")), "{words}");
+        assert!(words.contains(&format!(" at octet {} ", 5 + NAME + 60_000)), "{words}");
+        let short = [&[b'a'; SHOWN][..], &[0xff; SHOWN]].concat();
+        assert!(!told_of(&short).contains("..."));
+    }
+
+    #[test]
+    fn what_is_text_or_not_there_is_not_told() {
+        let whole = dump("Zürich \u{ffff}\0".as_bytes());
+        assert_eq!(told(&whole, 5), None);
+        let whole = dump(b"\xff");
+        assert!(told(&whole, 5).is_some());
+        for size in 0..5 + NAME + 1 {
+            assert_eq!(told(&whole[..size], 5), None);
+        }
+        assert_eq!(told(&whole, usize::MAX), None);
+    }
+}
