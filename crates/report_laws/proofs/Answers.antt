@@ -22,7 +22,7 @@ use Rattle.report_spec.specs.Own.{changes, times, cells, breaksBehind, own}
 use Rattle.report_spec.specs.Sum.{sums, fit}
 use Rattle.report_spec.specs.Answer.{reportAnswer, reportLeaves, reportOf}
 use Rattle.report_laws.proofs.Own.{cell-at}
-use Rattle.report_laws.proofs.Faults.{faults-to-13}
+use Rattle.report_laws.proofs.Faults.{no-sixteen}
 use Rattle.report_laws.proofs.Adding.{length-sums}
 
 abbrev answer : (fault place : ℕ) → Added
@@ -100,7 +100,7 @@ module _ (longest : ℕ) (report d : List ℕ) where
   pub sixteen : Octets d → ((reportAnswer longest report d) .fault ≡ 16) ↔ (Splits (layout longest) d × (fit (sums report (reportOf longest d)) ≡ false))
   sixteen oc = (
     ways oc (λ x r. x .fault ≡ 16 → Splits (layout longest) d × (fit (sums report (reportOf longest d)) ≡ false))
-        (λ h e. absurd (omega (arith, faults-to-13 longest d))) (λ s f e. (s, f)) (λ s f e. absurd (omega arith)),
+        (λ h e. absurd (no-sixteen longest d e)) (λ s f e. (s, f)) (λ s f e. absurd (omega arith)),
     λ h. rw (passed (h .0) (h .1) .0),
   )
 

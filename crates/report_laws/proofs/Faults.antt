@@ -1,5 +1,7 @@
--- No fault of a dump has a number above 13.
+-- Which numbers a dump's fault can have: none of those that belong to calls.
+use mathlib.Core.Path.{_≡_, refl}
 use mathlib.Core.Bool.{Bool, true, false, cond}
+use mathlib.Core.Logic.{_⊎_, inl, inr, ⊎-elim}
 use mathlib.Core.List.{List, [], _∷_}
 use Prim.Native.Nat.{ℕ, zero, suc, _+_, _-_, _/_, _%_, _≤_}
 use native.Mathlib.Omega.{arith}
@@ -16,29 +18,34 @@ use Rattle.page_spec.specs.Bgp4mp.{addresses, session, state, stateChange, mess
 use Rattle.page_spec.specs.Rib.{tiling, attributes, entryRest, prefix, genericHead}
 use Rattle.page_spec.specs.TableDump.{tableDumpRest, tableDump}
 use Rattle.page_spec.specs.Peers.{peerRest, peerSized, peer, tableHead}
+use Rattle.text_spec.specs.Check.{isText}
 use Rattle.page_spec.specs.Tiles.{tiles}
 use Rattle.page_spec.specs.Layout.{kind12, kind13, kind16, kind, stamped, layoutFor, layout}
 use Rattle.page_spec.specs.declared.Kind.{Kind}
 use Rattle.page_spec.specs.declared.Kind.the-variants.{Refused, Unread, TableDump, PeerTable, Rib, RibGeneric, Change, Message}
 use Rattle.page_laws.proofs.Choice.{by-test}
 
+-- no fault, or one of a header or a message
+abbrev pub OfDump : ℕ → Type 0
+OfDump n = (n ≤ 13) ⊎ (n ≡ 17)
+
 -- ---- what reading finds
 
 unfoldable Low : Fmt → Type 0
 Low (end b) = Unit
-Low (test n b f) = (n ≤ 13) × Low f
+Low (test n b f) = OfDump n × Low f
 Low (field x l b k) = (c : List ℕ) → Low (k c)
 
 module _ {A : Type 0} where
   abbrev Found : Out A → Type 0
-  Found (bad n p) = n ≤ 13
+  Found (bad n p) = OfDump n
   Found (good a r) = Unit
 
-  found-guard : (n p : ℕ) (o : Out A) → n ≤ 13 → Found o → Found (guard n p o)
+  found-guard : (n p : ℕ) (o : Out A) → OfDump n → Found o → Found (guard n p o)
   found-guard zero p o h g = g
   found-guard (suc n) p o h g = h
 
-  found-refuse : (t : Bool) (n p : ℕ) (o : Out A) → n ≤ 13 → Found o → Found (refuseIf t n p o)
+  found-refuse : (t : Bool) (n p : ℕ) (o : Out A) → OfDump n → Found o → Found (refuseIf t n p o)
   found-refuse true n p o h g = h
   found-refuse false n p o h g = g
 
@@ -48,14 +55,14 @@ found-bind (good a r) k h g = g a r
 
 found-ended : (p : ℕ) (b : Body) (r : List ℕ) → Found (ended p b r)
 found-ended p b [] = tt
-found-ended p b (x ∷ r) = omega arith
+found-ended p b (x ∷ r) = inl (omega arith)
 
 found-read : (f : Fmt) (at : ℕ) (bs : List ℕ) → Low f → Found (read f at bs)
 unfolding Low read
 found-read (end b) at bs h = tt
 found-read (test n b f) at bs h = found-guard n (at - b) (read f at bs) (h .0) (found-read f at bs (h .1))
 found-read (field x l b k) at bs h =
-    found-refuse (ltb (length bs) l) 5 (at - b) _ (omega arith)
+    found-refuse (ltb (length bs) l) 5 (at - b) _ (inl (omega arith))
     (found-bind (read (k (take l bs)) (at + l) (drop l bs)) _ (found-read (k (take l bs)) (at + l) (drop l bs) (h (take l bs))) (λ a r. tt))
 
 found-n : (f : Fmt) (n at : ℕ) (bs : List ℕ) → Low f → Found (readN f n at bs)
@@ -74,7 +81,7 @@ found-body (just f) at bs h = found-bind (read f at bs) _ (found-read f at bs h)
 found-body (free f) at bs h = found-bind (read f at bs) _ (found-read f at bs h) (λ cs r. tt)
 found-body (many f g) at bs h =
     found-bind (read f at bs) _ (found-read f at bs (h .0))
-    (λ cs r. found-refuse (ltb (length r) 2) 5 _ _ (omega arith)
+    (λ cs r. found-refuse (ltb (length r) 2) 5 _ _ (inl (omega arith))
     (found-bind (readN g (be (take 2 r)) (at + length (join cs) + 2) (drop 2 r)) _ (found-n g (be (take 2 r)) (at + length (join cs) + 2) (drop 2 r) (h .1)) (λ its q. found-ended _ (listed cs its) q)))
 
 -- ---- the layouts
@@ -84,8 +91,8 @@ unfolding choose
 low-choose true f g h j = h
 low-choose false f g h j = j
 
-low-test : (ok : Bool) (n : ℕ) → n ≤ 13 → cond ok 0 n ≤ 13
-low-test true n h = omega arith
+low-test : (ok : Bool) (n : ℕ) → OfDump n → OfDump (cond ok 0 n)
+low-test true n h = inl (omega arith)
 low-test false n h = h
 
 low-num : (x w : ℕ) (k : ℕ → Fmt) → ((v : ℕ) → Low (k v)) → Low (num x w k)
@@ -96,13 +103,13 @@ low-skip : (x w : ℕ) (f : Fmt) → Low f → Low (skip x w f)
 unfolding skip Low
 low-skip x w f h c = h
 
-low-checked : (x w : ℕ) (ok : ℕ → Bool) (n : ℕ) (k : ℕ → Fmt) → n ≤ 13 → ((v : ℕ) → Low (k v)) → Low (checked x w ok n k)
+low-checked : (x w : ℕ) (ok : ℕ → Bool) (n : ℕ) (k : ℕ → Fmt) → OfDump n → ((v : ℕ) → Low (k v)) → Low (checked x w ok n k)
 unfolding checked Low
 low-checked x w ok n k h g c = (low-test (ok (be c)) n h, g (be c))
 
 low-attributes : Low (attributes (end 0))
 unfolding attributes tiling tested Low
-low-attributes = low-num _ _ _ (λ n c. (low-test (tiles c 0) 11 (omega arith), tt))
+low-attributes = low-num _ _ _ (λ n c. (low-test (tiles c 0) 11 (inl (omega arith)), tt))
 
 low-addresses : (n : ℕ) (f : Fmt) → Low f → Low (addresses n f)
 unfolding addresses
@@ -112,7 +119,7 @@ low-session : (w : ℕ) (f : Fmt) → Low f → Low (session w f)
 unfolding session fail Low
 low-session w f h =
     low-num _ _ _ λ p. low-num _ _ _ λ l. low-num _ _ _ λ i. low-num _ _ _ λ family.
-    low-choose (eqb family 1) _ _ (low-addresses 4 f h) (low-choose (eqb family 2) _ _ (low-addresses 16 f h) (omega arith, tt))
+    low-choose (eqb family 1) _ _ (low-addresses 4 f h) (low-choose (eqb family 2) _ _ (low-addresses 16 f h) (inl (omega arith), tt))
 
 low-stamped : (micro : ℕ) (f : Fmt) → Low f → Low (stamped micro f)
 unfolding stamped
@@ -121,25 +128,25 @@ low-stamped (suc n) f h = low-num _ _ _ (λ u. h)
 
 low-change : Low stateChange
 unfolding stateChange state Low
-low-change = low-checked _ _ _ 9 _ (omega arith) (λ o. low-checked _ _ _ 9 _ (omega arith) (λ n. tt))
+low-change = low-checked _ _ _ 9 _ (inl (omega arith)) (λ o. low-checked _ _ _ 9 _ (inl (omega arith)) (λ n. tt))
 
 low-message : (longest : ℕ) → Low (message longest)
 unfolding message messageRest must area Low
-low-message longest = low-skip _ _ _ (low-num _ _ _ λ n. low-num _ _ _ λ t. (low-test (inRange 19 n longest) 10 (omega arith), λ c. tt))
+low-message longest = low-skip _ _ _ (low-num _ _ _ λ n. low-num _ _ _ λ t. (low-test (inRange 19 n longest) 10 (inl (omega arith)), λ c. tt))
 
 low-table-dump : (size : ℕ) → Low (tableDump size)
 unfolding tableDump tableDumpRest
 low-table-dump size =
-    low-num _ _ _ λ v. low-num _ _ _ λ s. low-skip _ _ _ (low-checked _ _ _ 8 _ (omega arith) λ n.
+    low-num _ _ _ λ v. low-num _ _ _ λ s. low-skip _ _ _ (low-checked _ _ _ 8 _ (inl (omega arith)) λ n.
     low-num _ _ _ λ s. low-num _ _ _ λ t. low-skip _ _ _ (low-num _ _ _ λ p. low-attributes))
 
 low-prefix : (bits : ℕ) → Low (prefix bits (end 0))
 unfolding prefix Low
-low-prefix bits = low-checked _ _ _ 8 _ (omega arith) (λ n. low-skip _ _ _ tt)
+low-prefix bits = low-checked _ _ _ 8 _ (inl (omega arith)) (λ n. low-skip _ _ _ tt)
 
 low-generic : Low (genericHead (end 0))
 low-generic =
-    low-num _ _ _ λ n. low-checked _ _ _ 7 _ (omega arith) λ f. low-checked _ _ _ 7 _ (omega arith) λ s.
+    low-num _ _ _ λ n. low-checked _ _ _ 7 _ (inl (omega arith)) λ f. low-checked _ _ _ 7 _ (inl (omega arith)) λ s.
     low-choose (leb f 1) _ _ (low-prefix 32) (low-prefix 128)
 
 low-peer-sized : (size t : ℕ) → Low (peerSized size t)
@@ -151,8 +158,8 @@ unfolding peer
 low-peer = low-num _ _ _ λ t. low-num _ _ _ λ b. low-choose (eqb (t % 2) 1) _ _ (low-peer-sized 16 t) (low-peer-sized 4 t)
 
 low-table : Low (tableHead (end 0))
-unfolding Low
-low-table = low-num _ _ _ λ c. low-num _ _ _ λ n. low-skip _ _ _ tt
+unfolding tested Low
+low-table = low-num _ _ _ λ c. low-num _ _ _ λ n c. (low-test (isText c) 17 (inr refl), tt)
 
 low-entry : Low entryRest
 low-entry = low-num _ _ _ λ t. low-attributes
@@ -160,7 +167,7 @@ low-entry = low-num _ _ _ λ t. low-attributes
 -- ---- whatever the Type and the Subtype
 
 abbrev LowKind : Kind → Type 0
-LowKind (Refused n p) = n ≤ 13
+LowKind (Refused n p) = OfDump n
 LowKind (Unread micro) = Unit
 LowKind (TableDump size) = Unit
 LowKind PeerTable = Unit
@@ -174,16 +181,16 @@ low-either t k j h g = by-test LowKind t k j (λ e. h) g
 
 low-16 : (micro sub : ℕ) → LowKind (kind16 micro sub)
 unfolding kind16
-low-16 micro u = low-either _ _ _ tt (low-either _ _ _ tt (low-either _ _ _ tt (low-either _ _ _ tt (omega arith))))
+low-16 micro u = low-either _ _ _ tt (low-either _ _ _ tt (low-either _ _ _ tt (low-either _ _ _ tt (inl (omega arith)))))
 
 low-kind : (type sub : ℕ) → LowKind (kind type sub)
 unfolding kind kind12 kind13
 low-kind y u =
     low-either _ _ _ tt
     (low-either _ _ _ tt
-    (low-either _ _ _ (low-either _ _ _ tt (low-either _ _ _ tt (omega arith)))
-    (low-either _ _ _ (low-either _ _ _ tt (low-either _ _ _ tt (low-either _ _ _ tt (low-either _ _ _ tt (omega arith)))))
-    (low-either _ _ _ (low-16 0 u) (low-either _ _ _ (low-16 4 u) (omega arith))))))
+    (low-either _ _ _ (low-either _ _ _ tt (low-either _ _ _ tt (inl (omega arith))))
+    (low-either _ _ _ (low-either _ _ _ tt (low-either _ _ _ tt (low-either _ _ _ tt (low-either _ _ _ tt (inl (omega arith))))))
+    (low-either _ _ _ (low-16 0 u) (low-either _ _ _ (low-16 4 u) (inl (omega arith)))))))
 
 low-plan : (longest : ℕ) (st : St) (k : Kind) → LowKind k → LowPlan (plan st (layoutFor longest k))
 unfolding plan layoutFor Low
@@ -191,10 +198,10 @@ low-plan longest st (Refused n p) h = (h, tt)
 low-plan longest st (Unread micro) h = low-stamped micro (end 0) tt
 low-plan longest st (TableDump size) h = low-table-dump size
 low-plan longest st PeerTable h = (low-table, low-peer)
-low-plan longest noTable (Rib bits) h = (omega arith, tt)
-low-plan longest (withPeers ns) (Rib bits) h = (low-num _ _ _ (λ n. low-prefix bits), low-checked _ _ _ 13 _ (omega arith) (λ i. low-entry))
-low-plan longest noTable RibGeneric h = (omega arith, tt)
-low-plan longest (withPeers ns) RibGeneric h = (low-generic, low-checked _ _ _ 13 _ (omega arith) (λ i. low-entry))
+low-plan longest noTable (Rib bits) h = (inl (omega arith), tt)
+low-plan longest (withPeers ns) (Rib bits) h = (low-num _ _ _ (λ n. low-prefix bits), low-checked _ _ _ 13 _ (inl (omega arith)) (λ i. low-entry))
+low-plan longest noTable RibGeneric h = (inl (omega arith), tt)
+low-plan longest (withPeers ns) RibGeneric h = (low-generic, low-checked _ _ _ 13 _ (inl (omega arith)) (λ i. low-entry))
 low-plan longest st (Change micro w) h = low-stamped micro (session w stateChange) (low-session w stateChange low-change)
 low-plan longest st (Message micro w) h = low-stamped micro (session w (message longest)) (low-session w (message longest) (low-message longest))
 
@@ -203,24 +210,28 @@ low-plan longest st (Message micro w) h = low-stamped micro (session w (message 
 found-record : (longest : ℕ) (st : St) (at : ℕ) (d : List ℕ) → Found (readRec (layout longest) st at d)
 unfolding readRec layout Low
 found-record longest st at d =
-    found-refuse (ltb (length d) 12) 1 at _ (omega arith)
+    found-refuse (ltb (length d) 12) 1 at _ (inl (omega arith))
     (found-bind (read header at d) _ (found-read header at d (λ a b c e. tt))
-    (λ cs m. found-refuse (ltb (length m) (number 3 cs)) 2 at _ (omega arith)
+    (λ cs m. found-refuse (ltb (length m) (number 3 cs)) 2 at _ (inl (omega arith))
     (found-bind (readBody (plan st (layout longest (number 1 cs) (number 2 cs))) (at + 12) (take (number 3 cs) m)) _
     (found-body (plan st (layout longest (number 1 cs) (number 2 cs))) (at + 12) (take (number 3 cs) m) (low-plan longest st (kind (number 1 cs) (number 2 cs)) (low-kind (number 1 cs) (number 2 cs))))
     (λ b q. tt))))
 
-found-step : (at : ℕ) (k : Rec → List ℕ → Walk) (o : Out Rec) → Found o → ((r : Rec) (d : List ℕ) → (k r d) .fault ≤ 13) → (step at k o) .fault ≤ 13
+found-step : (at : ℕ) (k : Rec → List ℕ → Walk) (o : Out Rec) → Found o → ((r : Rec) (d : List ℕ) → OfDump ((k r d) .fault)) → OfDump ((step at k o) .fault)
 found-step at k (bad n p) h g = h
 found-step at k (good r d) h g = g r d
 
-found-walk : (longest n : ℕ) (st : St) (at : ℕ) (d : List ℕ) → (walk (layout longest) n st at d) .fault ≤ 13
+found-walk : (longest n : ℕ) (st : St) (at : ℕ) (d : List ℕ) → OfDump ((walk (layout longest) n st at d) .fault)
 unfolding walk
-found-walk longest zero st at d = omega arith
-found-walk longest (suc n) st at [] = omega arith
+found-walk longest zero st at d = inl (omega arith)
+found-walk longest (suc n) st at [] = inl (omega arith)
 found-walk longest (suc n) st at (x ∷ xs) =
     found-step at _ (readRec (layout longest) st at (x ∷ xs)) (found-record longest st at (x ∷ xs)) (λ r d. found-walk longest n (next (layout longest) r st) (at + size r) d)
 
-pub faults-to-13 : (longest : ℕ) (d : List ℕ) → (walkAll (layout longest) d) .fault ≤ 13
+faults : (longest : ℕ) (d : List ℕ) → OfDump ((walkAll (layout longest) d) .fault)
 unfolding walkAll walkFrom
-faults-to-13 longest d = found-walk longest (length d) noTable 0 d
+faults longest d = found-walk longest (length d) noTable 0 d
+
+-- 16 is a report's alone
+pub no-sixteen : (longest : ℕ) (d : List ℕ) → (walkAll (layout longest) d) .fault ≡ 16 → ⊥
+no-sixteen longest d e = ⊎-elim (λ h. omega arith) (λ h. omega arith) (faults longest d)

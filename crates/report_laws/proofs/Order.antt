@@ -17,7 +17,7 @@ use Rattle.page_spec.specs.Layout.{layout}
 use Rattle.report_spec.specs.Sum.{sums, fit}
 use Rattle.report_spec.specs.Answer.{reportAnswer, reportLeaves, reportOf}
 use Rattle.report_spec.specs.Dumps.{reportsLeave, NonePasses, plus, together, AllOctets}
-use Rattle.report_laws.proofs.Faults.{faults-to-13}
+use Rattle.report_laws.proofs.Faults.{no-sixteen}
 use Rattle.report_laws.proofs.Adding.{sums-both, sums-swap, length-sums, fit-less}
 use Rattle.report_laws.proofs.Answers.{length-report, ways}
 
@@ -79,7 +79,7 @@ module _ (longest : ℕ) where
       → ((reportAnswer longest report d) .fault ≡ 16 → ⊥) × (reportLeaves longest report d ≡ plus longest d report)
   leaves-plus report d oc =
       ways longest report d oc (λ x r. fit (plus longest d report) ≡ true → (x .fault ≡ 16 → ⊥) × (r ≡ plus longest d report))
-      (λ h f. (λ e. omega (arith, faults-to-13 longest d), sym (plus-refused d report h)))
+      (λ h f. (λ e. no-sixteen longest d e, sym (plus-refused d report h)))
       (λ s f g. let e = plus-split d report (accepts (layout longest) d oc .1 s) in absurd (false≢true (sym f ∙ rw e at g)))
       (λ s f g. (λ e. omega arith, sym (plus-split d report (accepts (layout longest) d oc .1 s))))
 
