@@ -1,2 +1,6 @@
 pub mod Range
 pub mod Behind
+pub mod Finite
+pub mod First
+pub mod Sequence
+pub mod Rows
