@@ -4,3 +4,5 @@ pub mod Finite
 pub mod First
 pub mod Sequence
 pub mod Rows
+pub mod Sizes
+pub mod Values
