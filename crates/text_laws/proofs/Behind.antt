@@ -1,11 +1,11 @@
 -- The octets behind a sequence's first: the check passes over just those that lie in the ranges of a row.
-use mathlib.Core.Path.{_≡_, refl, ap, _∙_}
+use mathlib.Core.Path.{_≡_, refl, ap}
 use mathlib.Core.Bool.{Bool, true, false, cond}
 use mathlib.Core.List.{List, [], _∷_, _++_}
 use Prim.Native.Nat.{ℕ, zero, suc}
 use native.Mathlib.Omega.{arith}
 use Rattle.form_spec.specs.Words.{inRange}
-use Rattle.text_spec.specs.Grammar.{Range, to, tails, Row}
+use Rattle.text_spec.specs.Grammar.{Range, tails, Row}
 use Rattle.text_spec.specs.Check.{goesOn, isText}
 use Rattle.text_laws.proofs.Range.{inside, bounds}
 

@@ -1,20 +1,20 @@
 -- A sequence's first octet: the check says of it what the grammar's rows say.
-use mathlib.Core.Path.{_≡_, refl, ap, _∙_}
+use mathlib.Core.Path.{_≡_, refl}
 use mathlib.Core.Bool.{Bool, true, false, cond}
-use mathlib.Core.List.{List, [], _∷_, _++_, map}
-use mathlib.Core.Logic.{_⊎_, inl, inr}
-use Prim.Native.Nat.{ℕ, zero, suc, _+_, _-_, _≤_, _<_}
+use mathlib.Core.List.{List, [], _∷_, map}
+use mathlib.Core.Logic.{inl, inr}
+use Prim.Native.Nat.{ℕ, suc, _+_, _-_, _≤_, _<_}
 use native.Mathlib.Omega.{arith}
 use lib.ListN.{length}
-use lib.Dec.{eqb, leb}
+use lib.Dec.{eqb}
 use lib.Count.{leadingZeros}
-use borrow.Author.Tests.{eqb-true, leb-true, leb-false}
+use borrow.Author.Tests.{eqb-true}
 use Rattle.form_spec.specs.Words.{choose, inRange}
 use Rattle.text_spec.specs.declared.Start.{Start}
 use Rattle.text_spec.specs.declared.Start.the-variants.{Then, Bad}
 use Rattle.text_spec.specs.Grammar.{Range, to, tails, forms, Row, OneOf}
 use Rattle.text_spec.specs.Check.{least, most, startOf}
-use Rattle.text_laws.proofs.Range.{bounds}
+use Rattle.text_laws.proofs.Range.{bounds, upTo}
 use Rattle.text_laws.proofs.Behind.{behind}
 use Rattle.text_laws.proofs.Finite.{both, left, right, below, at}
 
@@ -87,25 +87,27 @@ leads-agree = refl
 agreed : (l : Lead) → agrees l ≡ true → (x : ℕ) → l .first .low ≤ x → x ≤ l .first .high → startOf x ≡ says l
 unfolding agrees
 agreed l e x p q =
-    let s : l .first .low + (x - l .first .low) ≡ x = omega arith in
-    same-true _ _ (rw s at (at (λ (k : ℕ). same (startOf (l .first .low + k)) (says l)) (suc (l .first .high) - l .first .low) e (x - l .first .low) (omega arith)))
+    let low : ℕ = l .first .low in
+    let s : low + (x - low) ≡ x = omega arith in
+    let t = at (λ (k : ℕ). same (startOf (low + k)) (says l)) (suc (l .first .high) - low) e (x - low) (omega arith) in
+    same-true (startOf x) (says l) (rw s at t)
 
 -- what the check answers for the first octet of a form, and the other octets in the ranges that it answers
-pub record Started (x : ℕ) (c : List ℕ) : Type 0 where
+pub record Answered (x : ℕ) (c : List ℕ) : Type 0 where
   pub more : ℕ
   pub next : Range
   pub start : startOf x ≡ Then more (next .low) (next .high)
   pub others : Row (behind more next) c
 
-started-in : (ls : List Lead) → all-agree ls ≡ true → (x : ℕ) (c : List ℕ) → OneOf (map row ls) (x ∷ c) → Started x c
+answered-in : (ls : List Lead) → all-agree ls ≡ true → (x : ℕ) (c : List ℕ) → OneOf (map row ls) (x ∷ c) → Answered x c
 unfolding all-agree
-started-in [] e x c h = absurd h
-started-in (l ∷ ls) e x c (inl h) =
+answered-in [] e x c h = absurd h
+answered-in (l ∷ ls) e x c (inl h) =
     record { more = l .more; next = l .next; start = agreed l (left (agrees l) (all-agree ls) e) x (h .0) (h .1); others = h .2 }
-started-in (l ∷ ls) e x c (inr h) = started-in ls (right (agrees l) (all-agree ls) e) x c h
+answered-in (l ∷ ls) e x c (inr h) = answered-in ls (right (agrees l) (all-agree ls) e) x c h
 
-pub form-starts : (x : ℕ) (c : List ℕ) → OneOf forms (x ∷ c) → Started x c
-form-starts = started-in leads leads-agree
+pub form-answered : (x : ℕ) (c : List ℕ) → OneOf forms (x ∷ c) → Answered x c
+form-answered = answered-in leads leads-agree
 
 -- ---- what the check answers, a row has said
 
@@ -123,6 +125,7 @@ all-told : below (λ (x : ℕ). same (startOf x) (told leads x)) 256 ≡ true
 unfolding told startOf least most choose leadingZeros inRange
 all-told = refl
 
+-- no octet
 beyond : (x : ℕ) → 255 < x → startOf x ≡ Bad
 unfolding startOf choose leadingZeros
 beyond x h = let z : 255 - x ≡ 0 = omega arith in rw z
@@ -140,11 +143,11 @@ told-led (l ∷ ls) x = go (inRange (l .first .low) x (l .first .high)) refl (to
     go true e h = λ c r. let b = bounds (l .first .low) x (l .first .high) e in inl (b .0, b .1, r)
     go false e h = led-more (row l) (map row ls) x (told ls x) h
 
-pub led : (x : ℕ) → Led forms x (startOf x)
-led x = go (leb x 255) refl
-  where
-    go : (t : Bool) → leb x 255 ≡ t → Led forms x (startOf x)
-    go true e =
-        let s : startOf x ≡ told leads x = same-true _ _ (at (λ (k : ℕ). same (startOf k) (told leads k)) 256 all-told x (omega (arith, leb-true x 255 e))) in
-        rw s (told-led leads x)
-    go false e = rw (beyond x (leb-false x 255 e)) tt
+-- the check's answers let nothing but forms pass
+pub answer-led : (x : ℕ) → Led forms x (startOf x)
+answer-led x =
+    upTo x 255
+    (λ h.
+    let s : startOf x ≡ told leads x = same-true _ _ (at (λ (k : ℕ). same (startOf k) (told leads k)) 256 all-told x (omega arith)) in
+    rw s (told-led leads x))
+    (λ h. rw (beyond x h) tt)

@@ -6,3 +6,6 @@ pub mod Sequence
 pub mod Rows
 pub mod Sizes
 pub mod Values
+pub mod Exactly
+pub mod Unique
+pub mod Plain

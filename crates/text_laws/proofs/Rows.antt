@@ -1,14 +1,14 @@
 -- The check passes just what the grammar parses.
 use mathlib.Core.Path.{_≡_, refl, ap, _∙_}
-use mathlib.Core.Bool.{Bool, true, false}
-use mathlib.Core.List.{List, [], _∷_, _++_, append-assoc}
+use mathlib.Core.Bool.{true}
+use mathlib.Core.List.{List, [], _∷_}
 use Prim.Native.Nat.{ℕ, zero, suc, _+_, _≤_}
 use native.Mathlib.Omega.{arith}
 use lib.ListN.{length, length-append}
 use Rattle.form_spec.specs.Fmt.{join}
 use Rattle.text_spec.specs.Grammar.{Sequences, Parsed}
 use Rattle.text_spec.specs.Check.{goesOn, isText}
-use Rattle.text_laws.proofs.Sequence.{form-over, Fronted, form-first}
+use Rattle.text_laws.proofs.Sequence.{form-over, form-first}
 
 joined-passes : (cs : List (List ℕ)) → Sequences cs → isText (join cs) ≡ true
 unfolding goesOn

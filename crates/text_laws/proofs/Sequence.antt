@@ -1,6 +1,6 @@
 -- One sequence: the check passes over just the octets of the grammar's forms.
-use mathlib.Core.Path.{_≡_, refl, ap, _∙_}
-use mathlib.Core.Bool.{Bool, true, false}
+use mathlib.Core.Path.{_≡_}
+use mathlib.Core.Bool.{true}
 use mathlib.Core.List.{List, [], _∷_, _++_}
 use Prim.Native.Nat.{ℕ}
 use native.Mathlib.Omega.{arith}
@@ -9,13 +9,13 @@ use Rattle.text_spec.specs.declared.Start.the-variants.{Then, Bad}
 use Rattle.text_spec.specs.Grammar.{to, forms, OneOf}
 use Rattle.text_spec.specs.Check.{startOf, started, goesOn, isText}
 use Rattle.text_laws.proofs.Behind.{goes-over, passed}
-use Rattle.text_laws.proofs.First.{form-some, form-starts, Led, led}
+use Rattle.text_laws.proofs.First.{form-some, form-answered, Led, answer-led}
 
 -- a form is passed over, whatever follows it
 pub form-over : (c rest : List ℕ) → OneOf forms c → isText (c ++ rest) ≡ isText rest
 unfolding goesOn
 form-over [] rest h = absurd (form-some h)
-form-over (x ∷ c) rest h = let s = form-starts x c h in rw (s .start) (goes-over (s .more) (s .next) c rest (s .others))
+form-over (x ∷ c) rest h = let s = form-answered x c h in rw (s .start) (goes-over (s .more) (s .next) c rest (s .others))
 
 -- what is passed over first is a form, behind which text goes on
 pub record Fronted (x : ℕ) (bs : List ℕ) : Type 0 where
@@ -27,7 +27,7 @@ pub record Fronted (x : ℕ) (bs : List ℕ) : Type 0 where
 
 pub form-first : (x : ℕ) (bs : List ℕ) → isText (x ∷ bs) ≡ true → Fronted x bs
 unfolding goesOn
-form-first x bs e = go (startOf x) (led x) e
+form-first x bs e = go (startOf x) (answer-led x) e
   where
     go : (s : Start) → Led forms x s → started (goesOn bs) s ≡ true → Fronted x bs
     go (Then n low high) f h =

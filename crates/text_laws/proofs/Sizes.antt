@@ -1,11 +1,9 @@
 -- A value's spelling, size by size.
-use mathlib.Core.Path.{_≡_, refl}
-use mathlib.Core.Bool.{Bool, true, false}
-use mathlib.Core.List.{List, [], _∷_}
+use mathlib.Core.Path.{_≡_}
+use mathlib.Core.List.{[], _∷_}
 use Prim.Native.Nat.{ℕ, _+_, _/_, _≤_, _<_}
 use native.Mathlib.Omega.{arith}
-use lib.Dec.{leb}
-use borrow.Author.Tests.{le-leb, lt-leb, leb-true, leb-false}
+use borrow.Author.Tests.{le-leb, lt-leb}
 use Rattle.text_spec.specs.Text.{tail, spell}
 
 pub spell-1 : (u : ℕ) → u ≤ 127 → spell u ≡ u ∷ []
@@ -23,11 +21,3 @@ spell-3 u l h = rw (lt-leb u 127 (omega arith), lt-leb u 2047 l, le-leb u 65535 
 pub spell-4 : (u : ℕ) → 65535 < u → spell u ≡ (240 + u / 262144) ∷ tail (u / 4096) ∷ tail (u / 64) ∷ tail u ∷ []
 unfolding spell
 spell-4 u l = rw (lt-leb u 127 (omega arith), lt-leb u 2047 (omega arith), lt-leb u 65535 l)
-
--- a number is at most b, or above it
-pub upTo : {P : Type 0} → (u b : ℕ) → (u ≤ b → P) → (b < u → P) → P
-upTo {P} u b f g = go (leb u b) refl
-  where
-    go : (t : Bool) → leb u b ≡ t → P
-    go true e = f (leb-true u b e)
-    go false e = g (leb-false u b e)
