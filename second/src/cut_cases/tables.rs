@@ -119,8 +119,8 @@ fn table_octets(book: &mut Book) {
     }
 }
 
-/// Tables whose name is not text: the first, one that has no peer left, one
-/// outside the window, and one that nothing follows.
+/// Tables whose name is not text: the first, and later ones of which muting
+/// would leave no peer, or that nothing follows.
 fn names_refused(book: &mut Book) {
     let routes = [table_of(&[20, 10]), rib(2, &[(0, 4), (1, 5)])];
     let long = named_table(&[0xff; 300], &members(&[20, 10])).set_n("collector", 20);
@@ -137,7 +137,7 @@ fn names_refused(book: &mut Book) {
 fn name_refused(book: &mut Book, what: &str, before: &[Sketch], from: &[Sketch]) {
     let place = octets(before).concat().len();
     let dump = octets(&[before, from].concat()).concat();
-    let ask = Ask::window(0, 5_000_000).muting(&[20]);
+    let ask = Ask::whole().muting(&[20]);
     book.refused(format!("table-name-{what}"), &ask, dump.len(), &dump, (17, place));
 }
 

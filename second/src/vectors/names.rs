@@ -73,12 +73,12 @@ fn boundaries(suite: &mut Suite) {
     };
     let records: Vec<_> = (0..=33).map(|place| table(&with(place, MIXED.as_bytes()))).collect();
     suite.good("name-good-at-each-place", &records);
-    for place in [1, 3, 7, 8, 9, 15, 16, 17, 31, 32, 33] {
+    for place in [7, 8, 15, 16, 31, 32] {
         let record = table(&with(place, &[0x80]));
         suite.bad(format!("name-tail-first-at-{place}"), &[], &record, NOT_TEXT);
     }
     let ends = |size: usize| [&vec![b'a'; size - 1][..], &[0xc2]].concat();
-    for size in [4, 8, 16, 32] {
+    for size in [8, 16] {
         suite.bad(format!("name-cut-off-at-{size}"), &[], &table(&ends(size)), NOT_TEXT);
     }
 }
@@ -130,8 +130,6 @@ fn later_tables(suite: &mut Suite) {
     suite.bad("tables-name-of-first-and-rib", &[], &behind, NOT_TEXT);
     let others = [keepalive(16, 1, V4).record(), state_change(17, 5, V4).record()];
     suite.bad("tables-name-after-others", &others, &spoiled, NOT_TEXT);
-    let twice = [&spoiled[..], &spoiled].concat();
-    suite.bad("tables-name-of-both", &[], &twice, NOT_TEXT);
     // Behind a name that is text, the table in force is its table.
     let stranger = rib(2, 0, &[], &[Route(2, &[])]).record();
     suite.bad("tables-name-text-index2-of-2", &[table(MIXED.as_bytes()), route], &stranger, 13);
