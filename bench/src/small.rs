@@ -19,19 +19,17 @@ fn numbered_peers(random: &mut Random, count: usize) -> Vec<Peer> {
     peers
 }
 
-/// View names with characters of every size, and one that is not text.
-const NAMES: [&[u8]; 6] = [
-    b"",
-    b"view",
-    "vu\u{e9}".as_bytes(),
-    "\u{feff}\u{4e2d}\u{ffff}".as_bytes(),
-    "\0\u{1f600}\u{10ffff}".as_bytes(),
-    b"\xed\xa0\x80",
-];
+/// View names with characters of every size.
+const NAMES: [&str; 5] =
+    ["", "view", "vu\u{e9}", "\u{feff}\u{4e2d}\u{ffff}", "\0\u{1f600}\u{10ffff}"];
+
+/// A surrogate, which is no text.
+const NOT_TEXT: &[u8] = b"\xed\xa0\x80";
 
 /// A peer table; once in 40 its name is not text.
 fn table(random: &mut Random, out: &mut Vec<u8>, count: usize) {
-    let name = if random.once_in(40) { NAMES[5] } else { NAMES[random.within(0, 4)] };
+    let text = NAMES[random.within(0, NAMES.len() - 1)];
+    let name = if random.once_in(40) { NOT_TEXT } else { text.as_bytes() };
     named_table(out, name, &numbered_peers(random, count));
 }
 
