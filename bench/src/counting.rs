@@ -14,7 +14,7 @@ const SIZE: usize = 1_000_000;
 /// The first word of a run that is counted: `bench count INPUT CALL`.
 pub const WORD: &str = "count";
 
-const INPUTS: [&str; 4] = ["updates", "table", "changes", "routes"];
+const INPUTS: [&str; 6] = ["updates", "table", "changes", "routes", "names-ascii", "names-mixed"];
 
 /// Both programs' calls, the check first. Before them stands [`NOTHING`], whose instructions are those of starting
 /// and making the dump.
@@ -47,6 +47,8 @@ fn made(input: &str) -> Made {
         "table" => made::table(SIZE, 30),
         "changes" => made::changes(SIZE),
         "routes" => made::routes(SIZE),
+        "names-ascii" => made::names(SIZE, made::ASCII),
+        "names-mixed" => made::names(SIZE, made::MIXED),
         _ => panic!("no such input: {input}"),
     }
 }

@@ -72,7 +72,7 @@ impl Ask {
 
 pub fn compare() {
     let mut random = Random::new(2);
-    let mut answers = [0; 16];
+    let mut answers = [0; 18];
     let mut changed = 0;
     for number in 0..DAMAGED {
         let mut dump = small::dump(&mut random);
@@ -85,7 +85,8 @@ pub fn compare() {
         answers[answer.fault as usize] += 1;
         changed += (answer.fault == 0 && !octets.is_empty() && octets != dump) as usize;
     }
-    assert!(!answers.contains(&0), "an answer that no small cut has: {answers:?}");
+    let is_met = |answer: usize| answers[answer] != 0 || answer == 16;
+    assert!((0..18).all(is_met), "an answer that no small cut has: {answers:?}");
     println!(
         "{DAMAGED} cuts of small dumps: the same answers and octets. How often each from 0 on:"
     );

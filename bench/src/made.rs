@@ -186,9 +186,13 @@ pub fn updates(size: usize) -> Made {
 }
 
 pub fn peer_table(out: &mut Vec<u8>, peers: &[Peer]) {
+    named_table(out, b"view", peers);
+}
+
+pub fn named_table(out: &mut Vec<u8>, name: &[u8], peers: &[Peer]) {
     record(out, ROUND, 13, 1, |out| {
         out.extend([192, 0, 2, 1]);
-        counted(out, |out| out.extend(b"view"));
+        counted(out, |out| out.extend(name));
         out.extend((peers.len() as u16).to_be_bytes());
         for peer in peers {
             out.push(peer.ipv6 as u8 | (peer.wide_as as u8) << 1);
@@ -287,3 +291,23 @@ fn route(random: &mut Random, out: &mut Vec<u8>, sequence: u16, number: u16) {
         counted(out, |out| attributes(random, out, size == 16));
     });
 }
+
+/// The most octets that a view name can have.
+const NAME: usize = 65_535;
+
+/// Peer tables without peers, at least one, each with a name as long as can be: this text over and
+/// over.
+pub fn names(size: usize, text: &str) -> Made {
+    let mut name = text.repeat(NAME / text.len()).into_bytes();
+    name.resize(NAME, b'z');
+    let mut out = Vec::with_capacity(size + 2 * NAME);
+    named_table(&mut out, &name, &[]);
+    while out.len() < size {
+        named_table(&mut out, &name, &[]);
+    }
+    Made { dump: out, numbers: Vec::new(), seconds: ROUND..=ROUND }
+}
+
+/// Names of characters of one octet, and of one to four in turn.
+pub const ASCII: &str = "view";
+pub const MIXED: &str = "v\u{e9}\u{4e2d}\u{1f600}";

@@ -21,7 +21,7 @@ use made::Made;
 use std::path::Path;
 use std::{env, fs, io};
 
-const USAGE: &str = "usage: bench [compare | report | MEGABYTES [FOLDER]]";
+const USAGE: &str = "usage: bench [compare | report | names | MEGABYTES [FOLDER]]";
 const MEGABYTE: usize = 1_000_000;
 
 /// A dump that stays in the cache shows what the code takes, a large one what memory adds.
@@ -49,11 +49,18 @@ fn measure_table(size: usize, peers: usize) {
     );
 }
 
+/// Tables with names of 65,535 octets, of which every one has to be looked at.
+fn measure_names(size: usize) {
+    checking::measure("long names of ASCII", &made::names(size, made::ASCII).dump);
+    checking::measure("long names of 1 to 4 octets", &made::names(size, made::MIXED).dump);
+}
+
 fn measure(size: usize) {
     measure_updates(size);
     measure_table(size, 30);
     measure_table(size, 20_000);
     reporting::measure_counted(size);
+    measure_names(size);
 }
 
 /// A dump, and the AS numbers to be muted, one a line.
@@ -94,6 +101,7 @@ fn main() {
         [] => compare_and_measure(LARGE),
         [counting::WORD, input, call] => counting::run(input, call),
         ["compare"] => compare(),
+        ["names"] => [1, SMALL, LARGE].into_iter().for_each(measure_names),
         ["report"] => [SMALL, LARGE].into_iter().for_each(reporting::measure_all),
         [megabytes] => compare_and_measure(size(megabytes)),
         [megabytes, folder] => {

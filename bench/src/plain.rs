@@ -1,4 +1,4 @@
-//! Document 01's check of a dump in plain, safe Rust, written for speed: whether a record is good is
+//! The documents' check of a dump in plain, safe Rust, written for speed: whether a record is good is
 //! asked in few steps, and which fault it has only where it is not.
 
 #![forbid(unsafe_code)]
@@ -126,8 +126,9 @@ fn is_table_dump<const SIZE: usize>(message: &[u8]) -> bool {
 
 /// The peer count of a peer table, if it is good.
 fn peer_count(message: &[u8]) -> Option<u16> {
-    let name = u16_at(message, 4)?;
-    let rest = message.get(6 + usize::from(name)..)?;
+    let size = u16_at(message, 4)?;
+    let (name, rest) = message[6..].split_at_checked(size.into())?;
+    std::str::from_utf8(name).ok()?;
     let count = u16_at(rest, 0)?;
     let mut peers = &rest[2..];
     for _ in 0..count {

@@ -1,4 +1,4 @@
-//! Which fault a record has: document 01's checks field by field, in its order. It is asked once a
+//! Which fault a record has: the documents' checks field by field, in their order. It is asked once a
 //! dump, where [`crate::plain`] finds a record that is not good.
 
 #![forbid(unsafe_code)]
@@ -18,6 +18,7 @@ enum Fault {
     Attributes = 11,
     NoTable = 12,
     PeerIndex = 13,
+    Name = 17,
 }
 
 type Checked<T> = Result<T, Fault>;
@@ -144,7 +145,8 @@ fn table_dump(mut message: Message, size: usize) -> Checked<()> {
 fn peer_table(mut message: Message) -> Checked<()> {
     message.skip(4)?;
     let name = message.u16()?;
-    message.skip(name as usize)?;
+    let name = message.take(name as usize)?;
+    check(std::str::from_utf8(name).is_ok(), Fault::Name)?;
     for _ in 0..message.u16()? {
         let kind = message.u8()?;
         let address = if kind & 1 != 0 { 16 } else { 4 };

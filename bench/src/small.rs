@@ -1,7 +1,7 @@
 //! Small dumps with every layout, and damage to them.
 
 use crate::made::Peer;
-use crate::made::{attributes, bgp, counted, entries, peer_table, peers, prefix, record, session};
+use crate::made::{attributes, bgp, counted, entries, named_table, peers, prefix, record, session};
 use crate::random::Random;
 
 /// Peer AS numbers: few, so that lists meet them, and some the same in their last 16 bits.
@@ -19,13 +19,27 @@ fn numbered_peers(random: &mut Random, count: usize) -> Vec<Peer> {
     peers
 }
 
+/// View names with characters of every size.
+const NAMES: [&str; 5] =
+    ["", "view", "vu\u{e9}", "\u{feff}\u{4e2d}\u{ffff}", "\0\u{1f600}\u{10ffff}"];
+
+/// A surrogate, which is no text.
+const NOT_TEXT: &[u8] = b"\xed\xa0\x80";
+
+/// A peer table; once in 40 its name is not text.
+fn table(random: &mut Random, out: &mut Vec<u8>, count: usize) {
+    let text = NAMES[random.within(0, NAMES.len() - 1)];
+    let name = if random.once_in(40) { NOT_TEXT } else { text.as_bytes() };
+    named_table(out, name, &numbered_peers(random, count));
+}
+
 /// A table, most times, and up to seven records of any layout.
 pub fn dump(random: &mut Random) -> Vec<u8> {
     let mut out = Vec::new();
     let most = random.within(1, 6);
     let mut told = random.within(1, 5);
     if !random.once_in(8) {
-        peer_table(&mut out, &numbered_peers(random, told));
+        table(random, &mut out, told);
     }
     for _ in 0..random.within(1, 7) {
         match random.within(1, 8) {
@@ -33,7 +47,7 @@ pub fn dump(random: &mut Random) -> Vec<u8> {
             2 => table_dump(random, &mut out),
             3 => {
                 told = random.within(1, 5);
-                peer_table(&mut out, &numbered_peers(random, told));
+                table(random, &mut out, told);
             }
             4 | 5 => rib(random, &mut out, most.min(told), told),
             _ => bgp4mp(random, &mut out),

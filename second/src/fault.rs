@@ -1,6 +1,7 @@
 //! What can be wrong with a record.
 
-/// A reason to refuse a record; the discriminant is its number in document 01.
+/// A reason to refuse a record; the discriminant is its number in documents 01
+/// and 02.
 #[derive(Clone, Copy, Debug, PartialEq, Eq)]
 #[repr(u8)]
 pub enum Fault {
@@ -24,6 +25,8 @@ pub enum Fault {
     NoTable = 12,
     /// An entry that names a peer past the end of the table.
     NoSuchPeer = 13,
+    /// A view name that is not UTF-8.
+    NameNotText = 17,
 }
 
 impl Fault {

@@ -21,6 +21,7 @@ pub mod report_cases;
 pub mod rib;
 pub mod sample;
 pub mod table_dump;
+pub mod text;
 pub mod vectors;
 pub mod write_cases;
 pub mod writer;

@@ -3,6 +3,7 @@
 use crate::fault::Fault;
 use crate::net::{Address, AsNumber, AsWidth, Family};
 use crate::reader::Reader;
+use crate::text;
 use crate::writer::Writer;
 
 const IPV6: u8 = 1;
@@ -67,7 +68,7 @@ impl Peer {
 #[derive(Clone, Debug, PartialEq, Eq)]
 pub struct PeerTable {
     pub collector: u32,
-    /// Any octets, text or not.
+    /// Text in UTF-8.
     pub view_name: Vec<u8>,
     pub peers: Vec<Peer>,
 }
@@ -77,6 +78,7 @@ impl PeerTable {
         let collector = reader.u32()?;
         let name_size = reader.u16()?;
         let view_name = reader.take(usize::from(name_size))?.to_vec();
+        text::judge(&view_name)?;
         let count = reader.u16()?;
         let peers = (0..count).map(|_| Peer::read(reader)).collect::<Result<_, _>>()?;
         Ok(PeerTable { collector, view_name, peers })

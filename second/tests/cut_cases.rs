@@ -20,7 +20,7 @@ fn every_fault_is_meant_somewhere() {
     let book = Book::generate();
     let intents = book.iter().filter_map(|(_, case)| case.intent.as_ref());
     let faults: BTreeSet<u8> = intents.map(|intent| intent.fault).collect();
-    assert!(faults.into_iter().eq(0..=15));
+    assert!(faults.into_iter().eq((0..=15).chain([17])));
 }
 
 #[test]
@@ -28,7 +28,7 @@ fn sizes_are_as_wanted() {
     let book = Book::generate();
     let sizes: Vec<usize> = book.iter().map(|(_, case)| case.to_octets().len()).collect();
     assert!(sizes.len() >= 400);
-    assert!(sizes.iter().sum::<usize>() < 1_200_000);
+    assert!(sizes.iter().sum::<usize>() < 1_400_000);
     assert!(sizes.iter().all(|size| *size <= 524_288));
     let small = sizes.iter().filter(|size| **size < 2_000).count();
     assert!(small * 100 >= sizes.len() * 95);

@@ -173,3 +173,43 @@ fn subtypes_four_and_five_are_not_swapped() {
     assert_eq!(fault(&record(16, 5, 24, &change)), (0, 36));
     assert_eq!(fault(&record(16, 4, 24, &change)), (5, 0));
 }
+
+/// A table without peers, and so many octets behind its name as `rest` has.
+fn named(name: &str, rest: &str) -> Vec<u8> {
+    let size = hex(name).len();
+    let message = format!("c6 33 64 04 00 {size:02x} {name} {rest}");
+    record(13, 1, hex(&message).len() as u16, &message)
+}
+
+#[test]
+fn view_names() {
+    for name in ["", "00", "64 65 73 6b", "c3 a9", "e4 b8 ad", "f0 9f 98 80", "ef bb bf"] {
+        let octets = named(name, "00 00");
+        assert_eq!(fault(&octets), (0, octets.len()), "{name}");
+    }
+    for name in ["80", "c0 af", "e0 9f bf", "ed a0 80", "f4 90 80 80", "f5", "ff", "64 e4 b8"] {
+        assert_eq!(fault(&named(name, "00 00")), (17, 0), "{name}");
+        // Before a peer count that is not there, and before octets that are left.
+        assert_eq!(fault(&named(name, "")), (17, 0), "{name}");
+        assert_eq!(fault(&named(name, "00")), (17, 0), "{name}");
+        assert_eq!(fault(&named(name, "00 00 00")), (17, 0), "{name}");
+        assert_eq!(fault(&named(name, "00 01 02")), (17, 0), "{name}");
+    }
+    assert_eq!(fault(&named("64", "00")), (5, 0));
+}
+
+#[test]
+fn view_names_that_the_message_ends_in() {
+    assert_eq!(fault(&record(13, 1, 8, "c6 33 64 04 00 03 ff ff")), (5, 0));
+    assert_eq!(fault(&record(13, 1, 9, "c6 33 64 04 00 03 ff ff ff")), (17, 0));
+    assert_eq!(fault(&record(13, 1, 9, "c6 33 64 04 00 04 ff ff ff")), (5, 0));
+}
+
+/// The first fault decides, and its place is the record's.
+#[test]
+fn view_names_of_later_tables() {
+    let octets = [two_peers(), named("ff", "00 00"), one_entry("00 01")].concat();
+    let text = "at=0 time=1000000 type=13 subtype=1 length=34\nfault=17 place=46\n";
+    assert_eq!(listing(&octets), text);
+    assert_eq!(fault(&[named("ff", "00 00"), one_entry("00 01")].concat()), (17, 0));
+}

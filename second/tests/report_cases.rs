@@ -20,7 +20,7 @@ fn every_fault_is_meant_somewhere() {
     let book = Book::generate();
     let intents = book.iter().filter_map(|(_, case)| case.intent.as_ref());
     let faults: BTreeSet<u8> = intents.map(|intent| intent.fault).collect();
-    assert!(faults.into_iter().eq((0..=13).chain([16])));
+    assert!(faults.into_iter().eq((0..=13).chain([16, 17])));
 }
 
 #[test]

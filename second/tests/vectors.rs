@@ -20,7 +20,7 @@ fn readings_are_as_meant() {
 #[test]
 fn every_fault_is_meant_somewhere() {
     let faults: Vec<u8> = Suite::generate().faults_meant().into_iter().collect();
-    assert_eq!(faults, (0..=13).collect::<Vec<u8>>());
+    assert_eq!(faults, (0..=13).chain([17]).collect::<Vec<u8>>());
 }
 
 #[test]

@@ -19,7 +19,7 @@ fn writers_answer_as_meant() {
 fn every_number_is_meant_somewhere() {
     let book = Book::generate();
     let faults: BTreeSet<u8> = book.iter().map(|(_, case)| case.intent.fault).collect();
-    assert!(faults.into_iter().eq([0, 3, 4, 5, 6, 7, 8, 9, 10, 11, 12, 13, 15]));
+    assert!(faults.into_iter().eq([0, 3, 4, 5, 6, 7, 8, 9, 10, 11, 12, 13, 15, 17]));
 }
 
 #[test]
@@ -27,7 +27,7 @@ fn sizes_are_as_wanted() {
     let book = Book::generate();
     let sizes: Vec<usize> = book.iter().map(|(_, case)| case.to_octets().len()).collect();
     assert!(sizes.len() >= 600);
-    assert!(sizes.iter().sum::<usize>() < 700_000);
+    assert!(sizes.iter().sum::<usize>() < 900_000);
     assert!(sizes.iter().all(|size| *size <= 131_072));
     assert!(book.iter().all(|(_, case)| case.room <= 131_072));
     assert!(book.iter().all(|(_, case)| case.intent.octets.len() <= 65_536));

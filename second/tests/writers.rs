@@ -223,6 +223,25 @@ fn tables() {
     refused(&named(65_536), 6);
 }
 
+#[test]
+fn names_of_tables() {
+    let named = |name: &str| PeerTable { name: hex(name), ..table(1, PEER) };
+    let told = "00 00 00 01 00 0d 00 01 00 00 00 1a c6 33 64 04";
+    let good = ["00 00 00 00 00", "c3 a9 e4 b8 ad", "ef bb bf c2 80", "f4 8f bf bf 41"];
+    for name in good {
+        written(&Given::PeerTable(named(name)), &format!("{told} 00 05 {name} 00 01 {PEER}"));
+    }
+    for name in ["80", "c0 80", "ed a0 80", "f4 90 80 80", "e2 82", "41 ff"] {
+        refused(&Given::PeerTable(named(name)), 17);
+        refused(&Given::PeerTable(PeerTable { count: 65_537, ..named(name) }), 17);
+        refused(&Given::PeerTable(PeerTable { peers: Vec::new(), ..named(name) }), 17);
+        refused(&Given::PeerTable(PeerTable { collector: 1 << 32, ..named(name) }), 6);
+    }
+    // Too long for its length field comes before what it holds.
+    refused(&Given::PeerTable(PeerTable { name: vec![0xff; 65_535], ..table(1, PEER) }), 17);
+    refused(&Given::PeerTable(PeerTable { name: vec![0xff; 65_536], ..table(1, PEER) }), 6);
+}
+
 fn routes(entries: &str) -> Routes {
     Routes { bits: 0, prefix: Vec::new(), count: 1, entries: hex(entries) }
 }

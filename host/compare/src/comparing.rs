@@ -6,6 +6,7 @@ use crate::desks::Desks;
 use crate::expected;
 use crate::itself;
 use crate::making;
+use crate::naming::{self, NameCalls};
 use crate::reading;
 use crate::reporting;
 use crate::tally::Tally;
@@ -24,6 +25,9 @@ const ALONE: usize = 12;
 /// So that the dumps made to be counted have nothing to do with the others of their seed.
 const SESSIONS: u64 = 0x5e55_1075;
 
+/// The same for those made for their view names.
+const NAMES: u64 = 0x4a3e_5017;
+
 /// Both answers to a call, and the dump it was made with.
 #[derive(Debug)]
 pub struct Difference {
@@ -40,7 +44,7 @@ impl fmt::Display for Difference {
 }
 
 /// Makes a dump from a seed and compares all calls with it; then the writers with fields of their
-/// own, and the report with dumps of its own.
+/// own, the report with dumps of its own, and names with tables of their own.
 pub fn compare_seed(seed: u64, desks: &mut Desks, tally: &mut Tally) -> Result<(), Difference> {
     let mut rng = Rng::seeded(seed);
     let made = making::any(&mut rng);
@@ -52,6 +56,9 @@ pub fn compare_seed(seed: u64, desks: &mut Desks, tally: &mut Tally) -> Result<(
         .map_err(|told| differs(&[], told))?;
     let mut apart = Rng::seeded(seed ^ SESSIONS);
     reporting::compare_sessions(&calls::report, &mut apart, &mut desks.dump, tally)
+        .map_err(|(dump, told)| differs(&dump, told))?;
+    let calls = NameCalls { check: &calls::check, write: &writing::written };
+    naming::compare(calls, &mut Rng::seeded(seed ^ NAMES), desks, tally)
         .map_err(|(dump, told)| differs(&dump, told))?;
     let Some(field) = made.field else {
         return Ok(());

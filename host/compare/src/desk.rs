@@ -12,6 +12,9 @@ const SHORT: usize = 4096;
 /// The call for a report, or one in its place.
 pub type ReportCall<'a> = &'a dyn Fn(&[u8], &mut [u64; 39], &mut [u64; 2]);
 
+/// The call for a check, or one in its place.
+pub type CheckCall<'a> = &'a dyn Fn(&[u8], &mut [u64; 3]);
+
 /// A window and a list.
 #[derive(Clone, Debug, PartialEq, Eq)]
 pub struct Ask {
@@ -63,7 +66,11 @@ impl Desk {
     }
 
     pub fn check(&mut self) -> Told<[u64; 3]> {
-        self.call("check", calls::check)
+        self.check_by(&calls::check)
+    }
+
+    pub fn check_by(&mut self, call: CheckCall) -> Told<[u64; 3]> {
+        self.call("check", call)
     }
 
     pub fn record(&mut self, at: usize, table: u64) -> Told<[u64; 10]> {

@@ -4,6 +4,9 @@ use crate::making::{Field, Kind, Writer};
 use second::report::{Report, NUMBERS};
 use std::fmt;
 
+/// Answers are 0 to 17.
+pub const ANSWERS: usize = 18;
+
 /// How often each turn of a writer slipped together with each other one.
 #[derive(Clone, Copy, Debug, Default, PartialEq, Eq)]
 pub struct Pairs([[u64; Writer::MOST_TURNS]; Writer::MOST_TURNS]);
@@ -30,7 +33,7 @@ pub struct Tally {
     /// In the order of [`Kind::ALL`].
     pub kinds: [u64; Kind::ALL.len()],
     /// Dumps by the number of their fault.
-    pub faults: [u64; 14],
+    pub faults: [u64; ANSWERS],
     /// Dumps in which this field is damaged, accepted and refused, in the order of [`Field::ALL`].
     pub fields: [[u64; 2]; Field::COUNT],
     /// Dumps whose check was held against going from record to record, without the second program.
@@ -41,15 +44,15 @@ pub struct Tally {
     /// Calls at places and with tables that need not belong together.
     pub stray: u64,
     /// Reads of one record, by the number of its fault.
-    pub read: [u64; 14],
+    pub read: [u64; ANSWERS],
     /// Records that were read and written again, in the order of [`Writer::ALL`].
     pub back: [u64; Writer::ALL.len()],
     /// Made-up calls of each writer, by their answer.
-    pub written: [[u64; 16]; Writer::ALL.len()],
+    pub written: [[u64; ANSWERS]; Writer::ALL.len()],
     /// Which of each writer's fields were at fault together.
     pub slips: [Pairs; Writer::ALL.len()],
     /// Cuts by their answer.
-    pub cuts: [u64; 16],
+    pub cuts: [u64; ANSWERS],
     /// Cuts that leave something, but not the dump as it was.
     pub changed: u64,
     /// Cuts of cuts.
@@ -57,7 +60,7 @@ pub struct Tally {
     /// Cuts of two dumps laid end to end.
     pub joined: u64,
     /// Dumps added to a lent report, by the answer.
-    pub reports: [u64; 17],
+    pub reports: [u64; ANSWERS],
     /// What all accepted dumps that were counted count up to, as a report's words.
     pub counted: [u64; NUMBERS],
     /// Steps of a sequence from 65,535 to 0, and those that a break is not.
@@ -65,6 +68,8 @@ pub struct Tally {
     pub goes_on: u64,
     /// Two dumps added one after the other.
     pub sums: u64,
+    /// Dumps of tables made for their names, by their fault, and calls of their writer, by the answer.
+    pub named: [[u64; ANSWERS]; 2],
     /// Two dumps counted as one: no chain over the seam, one that goes on there, one that breaks.
     pub seams: [u64; 3],
 }
@@ -74,25 +79,26 @@ impl Default for Tally {
         Tally {
             dumps: 0,
             kinds: [0; Kind::ALL.len()],
-            faults: [0; 14],
+            faults: [0; ANSWERS],
             fields: [[0; 2]; Field::COUNT],
             itself: 0,
             records: 0,
             items: 0,
             stray: 0,
-            read: [0; 14],
+            read: [0; ANSWERS],
             back: [0; Writer::ALL.len()],
-            written: [[0; 16]; Writer::ALL.len()],
+            written: [[0; ANSWERS]; Writer::ALL.len()],
             slips: Default::default(),
-            cuts: [0; 16],
+            cuts: [0; ANSWERS],
             changed: 0,
             twice: 0,
             joined: 0,
-            reports: [0; 17],
+            reports: [0; ANSWERS],
             counted: [0; NUMBERS],
             wraps: 0,
             goes_on: 0,
             sums: 0,
+            named: [[0; ANSWERS]; 2],
             seams: [0; 3],
         }
     }
@@ -132,6 +138,7 @@ impl Tally {
         all(&mut self.reports, &other.reports);
         all(&mut self.counted, &other.counted);
         all(&mut self.seams, &other.seams);
+        self.named.iter_mut().zip(&other.named).for_each(|(to, from)| all(to, from));
         self.written.iter_mut().zip(&other.written).for_each(|(to, from)| all(to, from));
         for (to, from) in self.slips.iter_mut().zip(&other.slips) {
             to.0.iter_mut().zip(&from.0).for_each(|(to, from)| all(to, from));
@@ -180,6 +187,9 @@ impl fmt::Display for Tally {
         writeln!(f, "  {records} records, {changes} state changes, {breaks} breaks")?;
         writeln!(f, "  {} steps go on, {} of them from 65,535 to 0", self.goes_on, self.wraps)?;
         writeln!(f, "  cells, from 1 to 1 on: {cells:?}")?;
+        let [dumps, calls] = self.named;
+        writeln!(f, "dumps made for view names, by fault, from 0 on: {dumps:?}")?;
+        writeln!(f, "  and calls of their writer, by answer: {calls:?}")?;
         let [none, goes_on, breaks] = self.seams;
         writeln!(f, "{} sums of two reports", self.sums)?;
         writeln!(

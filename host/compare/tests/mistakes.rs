@@ -1,5 +1,8 @@
 //! Reports with one mistake each, put in the place of the library's call: the comparison must find
-//! every one, and nothing in the same report without a mistake.
+//! every one, and nothing in the same report without a mistake. Then the same with view names.
+
+#[path = "mistakes/names.rs"]
+mod names;
 
 use compare::desk::Desk;
 use compare::reporting::compare_sessions;

@@ -36,8 +36,8 @@ fn dumps() -> u64 {
 /// Every answer was met, and neither refusals nor cuts without effect are most of it.
 fn is_telling(tally: &Tally) {
     assert!(!tally.kinds.contains(&0), "a kind of dump that was not made:\n{tally}");
-    assert!(!tally.faults.contains(&0), "a fault that no dump has:\n{tally}");
-    assert!(!tally.cuts.contains(&0), "an answer that no cut has:\n{tally}");
+    are_met("dumps", &tally.faults, is_fault, tally);
+    are_met("cuts", &tally.cuts, |answer| answer != 16, tally);
     assert!(tally.faults[0] * 3 > tally.dumps, "few dumps are accepted:\n{tally}");
     assert!(tally.changed * 3 > tally.cuts[0], "few cuts change something:\n{tally}");
     assert!(tally.twice * 4 > tally.dumps, "few cuts of cuts:\n{tally}");
@@ -50,7 +50,7 @@ fn is_telling(tally: &Tally) {
         accepted * 2 > refused && refused * 2 > accepted,
         "mostly one answer to damaged fields:\n{tally}"
     );
-    assert!(!tally.read.contains(&0), "a fault that no record read has:\n{tally}");
+    are_met("records read", &tally.read, is_fault, tally);
     assert!(!tally.back.contains(&0), "a kind of record never written again:\n{tally}");
     for writer in Writer::ALL {
         answers_are_met(writer, tally);
@@ -59,14 +59,35 @@ fn is_telling(tally: &Tally) {
     }
     assert!(tally.records > tally.dumps && tally.items > tally.dumps, "few records:\n{tally}");
     reports_are_telling(tally);
+    names_are_telling(tally);
+}
+
+/// The numbers that a dump or a record can have.
+fn is_fault(answer: usize) -> bool {
+    matches!(answer, 0..=13 | 17)
+}
+
+/// Every one of these answers, and no other.
+fn are_met(what: &str, counts: &[u64], is_told: impl Fn(usize) -> bool, tally: &Tally) {
+    for (answer, count) in counts.iter().enumerate() {
+        assert_eq!(*count != 0, is_told(answer), "{what}: {answer} {count} times:\n{tally}");
+    }
+}
+
+/// Many names are text and many are not; some tables end in the name or behind it.
+fn names_are_telling(tally: &Tally) {
+    let [dumps, calls] = tally.named;
+    assert!(dumps[0] * 5 > tally.dumps && dumps[17] * 4 > tally.dumps, "few names:\n{tally}");
+    assert!(dumps[5] * 20 > tally.dumps && dumps[6] > 0, "few tables cut short:\n{tally}");
+    assert!(calls[0] * 5 > tally.dumps && calls[17] * 4 > tally.dumps, "few names:\n{tally}");
+    are_met("names written", &calls, |answer| matches!(answer, 0 | 5 | 6 | 15 | 17), tally);
+    let is_common = |number: usize| tally.faults[number] * 200 > tally.dumps;
+    assert!(is_common(17) && tally.cuts[17] * 40 > tally.dumps, "few names refused:\n{tally}");
 }
 
 /// Every answer that a report has, every cell, chains that wrap and break, and every sort of seam.
 fn reports_are_telling(tally: &Tally) {
-    for (answer, count) in tally.reports.iter().enumerate() {
-        let is_told = !matches!(answer, 14 | 15);
-        assert_eq!(*count != 0, is_told, "a report answers {answer} {count} times:\n{tally}");
-    }
+    are_met("reports", &tally.reports, |answer| !matches!(answer, 14 | 15), tally);
     let [good, past] = [tally.reports[0], tally.reports[16]];
     assert!(good * 3 > tally.dumps && past * 4 > tally.dumps, "few of one answer:\n{tally}");
     assert!(!tally.counted.contains(&0), "a number of the report that stays 0:\n{tally}");
@@ -78,11 +99,8 @@ fn reports_are_telling(tally: &Tally) {
 
 /// Every number that the writer can answer, and no other.
 fn answers_are_met(writer: Writer, tally: &Tally) {
-    for (answer, count) in tally.written[writer as usize].iter().enumerate() {
-        let is_met = *count != 0;
-        let is_told = writer.answers().iter().any(|one| usize::from(*one) == answer);
-        assert_eq!(is_met, is_told, "{writer:?} answers {answer} {count} times:\n{tally}");
-    }
+    let is_told = |answer| writer.answers().iter().any(|one| usize::from(*one) == answer);
+    are_met(&format!("{writer:?}"), &tally.written[writer as usize], is_told, tally);
 }
 
 #[test]
@@ -101,7 +119,7 @@ fn the_suite_shows_no_difference() {
         compare_dump(&vector.octets, &mut rng, &mut desks, &mut tally)
             .unwrap_or_else(|told| panic!("{name}: {told}"));
     }
-    assert!(!tally.faults.contains(&0), "{tally}");
+    are_met("the suite", &tally.faults, is_fault, &tally);
 }
 
 /// The second program's book of cuts, and its dumps with other windows and lists too.

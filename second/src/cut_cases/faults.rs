@@ -1,6 +1,6 @@
 //! Dumps that are refused, under windows and lists of all kinds.
 
-use super::parts::{change, octets, old_route, rib, table_of};
+use super::parts::{change, members, named_table, octets, old_route, rib, table_of};
 use super::{Ask, Book};
 use crate::net::Family::{V4, V6};
 use crate::vectors::shapes::{generic_rib, keepalive, Route};
@@ -33,6 +33,7 @@ pub fn one_of_each() -> Vec<(u8, Vec<u8>)> {
         (11, generic_rib(1, 2, 0, &[], &untiled).at(5).record()),
         (12, rib(4, &[]).at(5).record()),
         (13, rib(4, &[(0, 1), (3, 2)]).at(5).record()),
+        (17, named_table(b"de\xed\xa0\x80sk", &members(&[10])).at(5).record()),
     ]
 }
 

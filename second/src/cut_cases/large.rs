@@ -1,7 +1,8 @@
 //! Dumps past 64 KB, and counts, indexes and lists that need many bits.
 
-use super::parts::{change, entry, octets, rib, table, Member};
+use super::parts::{change, entry, members, named_table, octets, rib, table, Member};
 use super::{Ask, Book};
+use crate::vectors::sequences::MIXED;
 use crate::vectors::sketch::Sketch;
 
 pub fn add(book: &mut Book) {
@@ -9,6 +10,7 @@ pub fn add(book: &mut Book) {
     many_muted(book);
     many_peers(book);
     many_entries(book);
+    longest_names(book);
 }
 
 /// State changes of peers 1 to 7 in turn, 78 KB, and 67 KB without one.
@@ -88,4 +90,18 @@ fn many_entries(book: &mut Book) {
     let kept: Vec<u16> = indexes.iter().copied().filter(|index| *index != 2).collect();
     let left = octets(&[peers(&[10, 20]), entries(&kept)]);
     book.left("large-33000-entries-mute-few", &Ask::whole().muting(&[30]), &dump, &left);
+}
+
+/// A name of as many octets as there can be, and one whose last octet is no
+/// character's.
+fn longest_names(book: &mut Book) {
+    let mut name = MIXED.repeat(6_553).into_bytes();
+    name.resize(65_535, b'z');
+    let with = |name: &[u8], numbers: &[u32]| octets(&[named_table(name, &members(numbers))]);
+    let ask = Ask::whole().muting(&[20]);
+    let dump = with(&name, &[10, 20, 30]);
+    book.left("large-name-65535", &ask, &dump, &with(&name, &[10, 30]));
+    name[65_534] = 0xbf;
+    let dump = with(&name, &[10, 20, 30]).concat();
+    book.refused("large-name-65535-last-octet", &ask, dump.len(), &dump, (17, 0));
 }

@@ -5,6 +5,7 @@ use super::parts::{change, named_table, octets, old_route, rib, withdrawal, Memb
 use super::{Ask, Book};
 use crate::vectors::random::spoiled;
 use crate::vectors::rng::Rng;
+use crate::vectors::sequences;
 use crate::vectors::shapes::{unread, FAMILIES, MESSAGES, STATE_CHANGES};
 use crate::vectors::sketch::Sketch;
 
@@ -96,7 +97,7 @@ impl Chance<'_> {
         self.peers = Some(count);
         let members: Vec<_> = (0..count).map(|_| self.member()).collect();
         let size = self.rng.below(5);
-        named_table(&self.rng.octets(size), &members)
+        named_table(&sequences::text(&self.rng.octets(size)), &members)
     }
 
     fn member(&mut self) -> Member {

@@ -2,6 +2,7 @@
 
 use super::parts::{change, member, members, named_table, octets, rib, table, table_of, Member};
 use super::{Ask, Book};
+use crate::vectors::sequences::MIXED;
 use crate::vectors::shapes::unread;
 use crate::vectors::sketch::Sketch;
 
@@ -12,6 +13,7 @@ pub fn add(book: &mut Book) {
     peers_with_one_as(book);
     peer_forms(book);
     table_octets(book);
+    names_refused(book);
     two_tables(book);
     two_sizes(book);
     three_tables(book);
@@ -99,13 +101,15 @@ fn peer_forms(book: &mut Book) {
     }
 }
 
-/// Collector and view name stay, whatever they hold.
+/// Collector and view name stay, whatever text it is.
 fn table_octets(book: &mut Book) {
-    let names: [(&str, Vec<u8>); 4] = [
+    let names: [(&str, Vec<u8>); 6] = [
         ("empty", Vec::new()),
         ("zeros", vec![0; 9]),
         ("looks-like-peers", vec![2; 26]),
-        ("long", vec![0xff; 300]),
+        ("mixed", MIXED.as_bytes().to_vec()),
+        ("marked", "\u{feff}desk\u{ffff}".as_bytes().to_vec()),
+        ("long-mixed", MIXED.repeat(30).into_bytes()),
     ];
     for (what, name) in names {
         let with = |numbers: &[u32]| named_table(&name, &members(numbers)).set_n("collector", 20);
@@ -113,6 +117,28 @@ fn table_octets(book: &mut Book) {
         let left = [with(&[10]), rib(2, &[(0, 5)])];
         case(book, &format!("name-{what}"), &[20], &dump, &left);
     }
+}
+
+/// Tables whose name is not text: the first, and later ones of which muting
+/// would leave no peer, or that nothing follows.
+fn names_refused(book: &mut Book) {
+    let routes = [table_of(&[20, 10]), rib(2, &[(0, 4), (1, 5)])];
+    let long = named_table(&[0xff; 300], &members(&[20, 10])).set_n("collector", 20);
+    name_refused(book, "long", &[], &[long, routes[1].clone()]);
+    let spoiled = |name: &[u8], numbers: &[u32]| named_table(name, &members(numbers)).at(9);
+    name_refused(book, "tail-first", &[], &[spoiled(b"\x80", &[10])]);
+    name_refused(book, "above", &[], &[spoiled(b"\xf4\x90\x80\x80z", &[10]), rib(2, &[(0, 4)])]);
+    name_refused(book, "overlong-muted", &routes, &[spoiled(b"\xe0\x9f\xbf", &[20, 20])]);
+    name_refused(book, "surrogate-second", &routes, &[spoiled(b"a\xed\xb0\x80", &[10])]);
+    name_refused(book, "cut-off-no-peers", &routes, &[spoiled(b"desk\xf0\x90\x80", &[])]);
+}
+
+/// Good records, then those from the table on that is refused.
+fn name_refused(book: &mut Book, what: &str, before: &[Sketch], from: &[Sketch]) {
+    let place = octets(before).concat().len();
+    let dump = octets(&[before, from].concat()).concat();
+    let ask = Ask::whole().muting(&[20]);
+    book.refused(format!("table-name-{what}"), &ask, dump.len(), &dump, (17, place));
 }
 
 /// An entry for each of three peers.

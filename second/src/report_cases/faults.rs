@@ -1,15 +1,43 @@
 //! Dumps that are refused: none of their records counts.
 
-use super::parts::{all, changes, counted, routes};
+use super::parts::{all, changes, counted, own, routes};
 use super::Book;
 use crate::cut_cases::faults::one_of_each;
-use crate::vectors::shapes::plain_table;
+use crate::vectors::sequences::MIXED;
+use crate::vectors::shapes::{peer_table, plain_table};
 
 pub fn add(book: &mut Book) {
     for (fault, record) in one_of_each() {
         alone(book, fault, &record);
         later(book, fault, &record);
     }
+    names(book);
+}
+
+/// View names that are not text, with counts before them; and a name of as many
+/// octets as there can be, good and not.
+fn names(book: &mut Book) {
+    let counts = [changes(&[(1, 2), (6, 1)]), routes(&[1, 3])].concat();
+    let before = counts.concat().len();
+    let all = |name: &[u8]| [&counts[..], &[peer_table(name, &[2, 3]).record()]].concat();
+    let spoiled: [(&str, &[u8]); 5] = [
+        ("tail-first", b"\x80desk"),
+        ("overlong", b"\xc1\xbf"),
+        ("surrogate", b"desk\xed\xa0\x80"),
+        ("above", b"\xf4\x90\x80\x80"),
+        ("cut-off", b"desk\xe2\x82"),
+    ];
+    for (what, name) in spoiled {
+        let dump = all(name).concat();
+        book.refused(format!("fault-17-{what}"), &counted(), &dump, (17, before));
+    }
+    let meant = own(5, 1, &[(1, 2), (6, 1)]);
+    book.adds("name-mixed", &counted(), &all(MIXED.as_bytes()), &meant);
+    let mut name = MIXED.repeat(6_553).into_bytes();
+    name.resize(65_535, b'z');
+    book.adds("name-65535", &counted(), &all(&name), &meant);
+    name[65_534] = 0xc3;
+    book.refused("name-65535-last-octet", &counted(), &all(&name).concat(), (17, before));
 }
 
 /// Right at the front, or behind just the table that it needs.

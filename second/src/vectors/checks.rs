@@ -377,15 +377,18 @@ fn peer_types(suite: &mut Suite) {
 fn view_names(suite: &mut Suite) {
     let mut rng = Rng::seeded(3629);
     let long = rng.octets(300);
-    let names: [(&str, &[u8]); 5] = [
-        ("ascii", b"main"),
-        ("utf8", "Sicht \u{e9}\u{4e2d}\u{1f600}".as_bytes()),
-        ("zero-octet", &[0]),
-        ("not-text", &[0xff, 0xc0, 0x80, 0xed, 0xa0, 0x80]),
-        ("300-octets", &long),
+    let text: Vec<u8> = long.iter().map(|octet| octet & 0x7f).collect();
+    let names: [(&str, &[u8], u8); 6] = [
+        ("ascii", b"main", 0),
+        ("utf8", "Sicht \u{e9}\u{4e2d}\u{1f600}".as_bytes(), 0),
+        ("zero-octet", &[0], 0),
+        ("not-text", &[0xff, 0xc0, 0x80, 0xed, 0xa0, 0x80], 17),
+        ("300-octets", &long, 17),
+        ("300-octets-ascii", &text, 0),
     ];
-    for (name, octets) in names {
-        suite.good(format!("13-1-view-name-{name}"), &[peer_table(octets, &[2, 3]).record()]);
+    for (name, octets, fault) in names {
+        let record = peer_table(octets, &[2, 3]).record();
+        one(suite, format!("13-1-view-name-{name}"), &[], record, fault);
     }
     let table = peer_table(b"main", &[2]);
     suite.bad("13-1-view-name-length65535", &[], &table.set_n("name-length", 65_535).record(), 5);

@@ -2,8 +2,8 @@
 
 use super::rng::Rng;
 use super::shapes::{
-    bgp_message, generic_rib, keepalive, plain_table, rib, state_change, table_dump, unread,
-    withdrawal, Route, PATH,
+    bgp_message, generic_rib, keepalive, peer_table, plain_table, rib, state_change, table_dump,
+    unread, withdrawal, Route, PATH,
 };
 use super::Suite;
 use crate::net::Family::{V4, V6};
@@ -64,6 +64,7 @@ fn one_of_each() -> Vec<(u8, Vec<u8>)> {
         (11, rib(5, 0, &[], &[Route(0, &[0x50, 2, 0])]).record()),
         (12, rib(3, 0, &[], &[]).record()),
         (13, rib(3, 0, &[], &[Route(2, &PATH)]).record()),
+        (17, peer_table(b"\xc0\xaf", &[2]).record()),
     ]
 }
 

@@ -1,6 +1,7 @@
 //! Random dumps, from fixed seeds.
 
 use super::rng::Rng;
+use super::sequences;
 use super::shapes::{
     bgp_message, generic_rib, peer_table, rib, state_change, table_dump, unread, Route,
     EXTENDED_PATH, FAMILIES, MESSAGES, PATH, STATE_CHANGES,
@@ -74,7 +75,7 @@ impl<'a> Chance<'a> {
         self.peers = 1 + self.rng.below(6);
         let types = self.rng.octets(self.peers);
         let name_size = self.rng.below(9);
-        peer_table(&self.rng.octets(name_size), &types)
+        peer_table(&sequences::text(&self.rng.octets(name_size)), &types)
     }
 
     fn unread(&mut self) -> Sketch {

@@ -16,11 +16,23 @@ pub fn add(book: &mut Book) {
 
 fn names(book: &mut Book) {
     for size in [0, 1, 255, 256, 300] {
-        let name = vec![0xff; size];
-        let record = shapes::peer_table(&name, &[0, 3, 0xfe]).record();
-        book.good(format!("name-{size}"), named(name), record.len(), &record);
+        // Octets that no text has, where there are any.
+        let (name, text) = (vec![0xff; size], vec![0x7f; size]);
+        let record = |name: &[u8]| shapes::peer_table(name, &[0, 3, 0xfe]).record();
+        let room = record(&text).len();
+        if size == 0 {
+            book.good("name-0", named(name), room, &record(&text));
+            continue;
+        }
+        book.bad(format!("name-{size}"), named(name), room, 17);
+        book.good(format!("name-{size}-ascii"), named(text.clone()), room, &record(&text));
     }
     book.bad("name-65535-no-room", named(vec![7; 65_535]), 65_535, 15);
+    let mut last_octet = vec![7; 65_535];
+    last_octet[65_534] = 0xc2;
+    book.bad("name-65535-last-octet", named(last_octet), 65_535, 17);
+    // A length that has no place in its field comes first.
+    book.bad("name-65536-not-text", named(vec![0xff; 65_536]), 131_072, 6);
     // Were its length 0 to the writer, the peers would be too few.
     let short = PeerTable { name: vec![7; 65_536], peers: Vec::new(), ..table() };
     book.bad("name-65536-and-no-peers", Given::PeerTable(short), 0, 6);

@@ -3,6 +3,7 @@
 mod entries;
 mod fields;
 mod large;
+mod names;
 mod parts;
 mod sessions;
 mod tables;
@@ -130,6 +131,7 @@ impl Book {
         sessions::add(&mut book);
         entries::add(&mut book);
         large::add(&mut book);
+        names::add(&mut book);
         book
     }
 

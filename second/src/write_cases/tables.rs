@@ -126,6 +126,7 @@ fn peers() -> Call<PeerTable> {
         fields: vec![
             Field::carried("timestamp", 4, SECONDS, |given: &mut PeerTable| &mut given.timestamp),
             Field::carried("collector", 4, 7, |given| &mut given.collector),
+            name(),
             Field::number("peer-count", 2, 3, |given| &mut given.count),
             Field::part("peers")
                 .slip("short", 5, |given: &mut PeerTable| shorten(&mut given.peers))
@@ -137,6 +138,17 @@ fn peers() -> Call<PeerTable> {
         ],
         given: Given::PeerTable,
     }
+}
+
+/// Other names that are not text are in `names.rs`, one that is too long in
+/// `large.rs`.
+fn name() -> Field<PeerTable> {
+    Field::part("name")
+        .slip("tail-first", 17, |given: &mut PeerTable| given.name.insert(0, 0x80))
+        .slip("cut-off", 17, |given| given.name.push(0xc3))
+        .slip("overlong", 17, |given| given.name.extend([0xc0, 0xaf]))
+        .slip("surrogate", 17, |given| given.name.extend([0xed, 0xa0, 0x80]))
+        .slip("above", 17, |given| given.name.extend([0xf4, 0x90, 0x80, 0x80]))
 }
 
 /// One peer under each type octet, in the octets of each: those too few, just

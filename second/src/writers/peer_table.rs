@@ -4,6 +4,7 @@ use super::draft::Draft;
 use crate::fault::Fault;
 use crate::peer_table::Peer;
 use crate::reader::Reader;
+use crate::text;
 
 #[derive(Clone, Debug, PartialEq, Eq)]
 pub struct PeerTable {
@@ -20,6 +21,7 @@ impl PeerTable {
         let (mut draft, _) = Draft::start(self.timestamp, 13, 1)?;
         draft.u32(self.collector)?;
         draft.size(&self.name)?;
+        text::judge(&self.name)?;
         draft.octets(&self.name);
         let count = draft.u16(self.count)?;
         self.judge_peers(count)?;

@@ -77,7 +77,10 @@ impl Damage<'_> {
         let at = self.spot.octets.start + rng.below(self.spot.octets.len());
         let old = self.dump[at];
         let values = [old.wrapping_sub(1), 0, u8::MAX, rng.word() as u8];
-        let drawn = *rng.pick(&values);
+        let drawn = match rng.below(2) {
+            0 if !self.spot.edges.is_empty() => *rng.pick(&self.spot.edges) as u8,
+            _ => *rng.pick(&values),
+        };
         self.dump[at] = if drawn == old { old.wrapping_add(1) } else { drawn };
     }
 

@@ -1,5 +1,6 @@
 //! What the seven writers are given: fields at and over their bounds, any two of them at fault.
 
+use super::names;
 use super::records::Maker;
 use second::vectors::rng::Rng;
 use second::writers::{
@@ -43,25 +44,25 @@ impl Writer {
     /// The most turns that one has.
     pub const MOST_TURNS: usize = 11;
 
-    /// How many turns its fields have: one each, but two for entries and for a message, and none
-    /// for contents, which are never at fault.
+    /// How many turns its fields have: one each, but two for a name, for entries and for a message,
+    /// and none for contents, which are never at fault.
     pub fn turns(self) -> usize {
         match self {
             Writer::Unread => 4,
             Writer::TableDump => 11,
-            Writer::PeerTable => 5,
+            Writer::PeerTable => 6,
             Writer::Rib => 9,
             Writer::RibGeneric => 10,
             Writer::Change | Writer::Message => 11,
         }
     }
 
-    /// The numbers that it can answer, by document 01's table and its fields.
+    /// The numbers that it can answer, by the documents' tables and its fields.
     pub fn answers(self) -> &'static [u8] {
         match self {
             Writer::Unread => &[0, 3, 6, 15],
             Writer::TableDump => &[0, 4, 5, 6, 8, 11, 15],
-            Writer::PeerTable => &[0, 5, 6, 15],
+            Writer::PeerTable => &[0, 5, 6, 15, 17],
             Writer::Rib => &[0, 4, 5, 6, 8, 11, 12, 13, 15],
             Writer::RibGeneric => &[0, 5, 6, 7, 8, 11, 12, 13, 15],
             Writer::Change => &[0, 4, 5, 6, 7, 9, 15],
@@ -69,6 +70,9 @@ impl Writer {
         }
     }
 }
+
+/// The turn of a peer table's name to be text.
+const NAME: usize = 3;
 
 /// A call of a writer.
 pub struct MadeGiven {
@@ -88,6 +92,20 @@ pub fn given(writer: Writer, rng: &mut Rng) -> MadeGiven {
     let given = maker.given(writer);
     debug_assert_eq!(maker.turn, turns, "{writer:?}");
     MadeGiven { given, slipped: maker.slipped }
+}
+
+/// A call of the writer of peer tables, one in two with a name that is not text, some of these with
+/// another fault, before or after it.
+pub fn named(rng: &mut Rng) -> Given {
+    let turn = rng.below(Writer::PeerTable.turns());
+    let slips = match rng.below(8) {
+        0..=2 => Slips::Two([NAME; 2]),
+        3 => Slips::Two([NAME, turn]),
+        4 => Slips::Two([turn; 2]),
+        _ => Slips::None,
+    };
+    let mut maker = GivenMaker { rng, slips, slipped: [false; Writer::MOST_TURNS], turn: 0 };
+    Given::PeerTable(maker.peer_table())
 }
 
 /// Room about the size of what is written; any where nothing is.
@@ -264,12 +282,7 @@ impl GivenMaker<'_> {
 
     fn peer_table(&mut self) -> PeerTable {
         let (timestamp, collector) = (self.timestamp(), self.number(4));
-        let name = match (self.slip(), self.rng.below(300)) {
-            (true, _) => *self.rng.pick(&[65_536, 65_537, 131_072]),
-            (false, 0) => 65_535,
-            (false, _) => *self.rng.pick(&[0, 1, 7, 255, 256]),
-        };
-        let name = self.rng.octets(name);
+        let name = self.name();
         let count = self.count();
         let mut maker = Maker::new(self.rng, 0);
         (0..count).for_each(|_| maker.peer());
@@ -277,6 +290,19 @@ impl GivenMaker<'_> {
         let told = self.told(count);
         let peers = if self.slip() { self.spoilt(peers) } else { peers };
         PeerTable { timestamp, collector, name, count: told, peers }
+    }
+
+    /// A slip is too long, another one is no text.
+    fn name(&mut self) -> Vec<u8> {
+        let size = match (self.slip(), self.rng.below(300)) {
+            (true, _) => *self.rng.pick(&[65_536, 65_537, 131_072]),
+            (false, 0) => 65_535,
+            (false, _) => *self.rng.pick(&[0, 1, 7, 255, 256]),
+        };
+        if self.slip() {
+            return names::spoiled(size, self.rng);
+        }
+        names::text(size, self.rng)
     }
 
     /// How many items: few, rarely more than one octet can count, and more rarely the most.

@@ -51,6 +51,11 @@ const ENTRY: Attributes = Attributes {
 
 const FAMILIES: &[usize] = &[0, 1, 2, 3, 256, 257, 258, 513];
 const STATES: &[usize] = &[0, 1, 6, 7, 8, 256, 257, 262];
+/// Octets at the bounds of what UTF-8 has, as the first one of a character or behind it.
+const NAME_OCTETS: &[usize] = &[
+    0x00, 0x7f, 0x80, 0x8f, 0x90, 0x9f, 0xa0, 0xbf, 0xc0, 0xc1, 0xc2, 0xdf, 0xe0, 0xed, 0xef, 0xf0,
+    0xf4, 0xf5, 0xf8,
+];
 const PREFIX_LENGTHS: &[usize] = &[0, 1, 8, 9, 31, 32, 33, 127, 128, 129];
 
 impl Map<'_> {
@@ -150,7 +155,7 @@ impl Map<'_> {
         self.field(Field::TableCollector, 4, &[]);
         let name = self.field(Field::TableNameLength, 2, &[]);
         self.measures(self.at..self.at + name);
-        self.field(Field::TableName, name, &[]);
+        self.field(Field::TableName, name, NAME_OCTETS);
         self.peers = self.field(Field::TablePeerCount, 2, &[]);
         let count = self.measures(0..0);
         for _ in 0..self.peers {

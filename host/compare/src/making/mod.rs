@@ -7,13 +7,15 @@ mod fields;
 mod given;
 mod layout;
 mod long;
+mod names;
 mod records;
 mod reports;
 mod sessions;
 
 pub use asks::{ask, Known};
 pub use fields::Field;
-pub use given::{given, room, MadeGiven, Writer};
+pub use given::{given, named, room, MadeGiven, Writer};
+pub use names::tables as named_tables;
 pub use records::Maker;
 pub use reports::reports;
 pub use sessions::{sessions, sessions_from};
@@ -37,6 +39,8 @@ pub enum Kind {
     Damaged,
     /// Good records, of which one named field is damaged: what a fast look must not let pass.
     Fields,
+    /// Peer tables with names that are text and names that are not.
+    Names,
     /// The second program's own good dumps, which other hands have made.
     Foreign,
     /// Many records, entries and peers: sizes that do not fit in one or two octets.
@@ -44,13 +48,14 @@ pub enum Kind {
 }
 
 impl Kind {
-    pub const ALL: [Kind; 8] = [
+    pub const ALL: [Kind; 9] = [
         Kind::Octets,
         Kind::Headers,
         Kind::Good,
         Kind::Edges,
         Kind::Damaged,
         Kind::Fields,
+        Kind::Names,
         Kind::Foreign,
         Kind::Long,
     ];
@@ -60,13 +65,14 @@ impl Kind {
         if rng.below(1500) == 0 {
             return Kind::Long;
         }
-        match rng.below(26) {
+        match rng.below(27) {
             0 | 1 => Kind::Octets,
             2..=4 => Kind::Headers,
             5..=9 => Kind::Good,
             10..=13 => Kind::Edges,
             14..=17 => Kind::Damaged,
             18..=23 => Kind::Fields,
+            24 => Kind::Names,
             _ => Kind::Foreign,
         }
     }
@@ -89,6 +95,7 @@ impl Kind {
                 damage::damaged(dump, rng)
             }
             Kind::Fields => field_damage::dump(field, rng),
+            Kind::Names => names::tables(rng),
             Kind::Foreign => cut_cases::random::dump(rng),
             Kind::Long => long::dump(rng),
         }

@@ -1,5 +1,6 @@
 //! Records of every layout, written octet by octet from document 01.
 
+use super::names;
 use second::vectors::rng::Rng;
 
 /// Each type that is read, and the subtypes to draw from; any will do where it is carried unread.
@@ -156,11 +157,11 @@ impl<'a> Maker<'a> {
     }
 
     pub fn table(&mut self, count: usize) {
-        let name = *self.rng.pick(&[0, 0, 1, 4, 255, 256]);
+        let name = self.name();
         self.record(13, 1, |maker| {
             maker.any_octets(4);
-            maker.u16(name);
-            maker.any_octets(name);
+            maker.u16(name.len());
+            maker.out.extend(name);
             let slipped = if maker.half() { count + 1 } else { count.wrapping_sub(1) };
             let told = if maker.slip() { slipped } else { count };
             maker.u16(told);
@@ -169,6 +170,16 @@ impl<'a> Maker<'a> {
             }
         });
         self.peers = Some(count);
+    }
+
+    /// Text; a slip is none.
+    fn name(&mut self) -> Vec<u8> {
+        let size = *self.rng.pick(&[0, 0, 1, 4, 255, 256]);
+        // More often than other fields, since few records are tables.
+        if self.slip() || self.slip() {
+            return names::spoiled(size, self.rng);
+        }
+        names::text(size, self.rng)
     }
 
     pub fn peer(&mut self) {

@@ -3,6 +3,7 @@
 use super::words::{self, Flag, PARTS};
 use crate::lending::{self, Loan, Spot};
 use crate::telling::Told;
+use dagsumilat::calls::writers as calls;
 use second::vectors::rng::Rng;
 use second::writers::Given;
 
@@ -21,6 +22,9 @@ impl Spots {
     }
 }
 
+/// The library's writer of what it is given, or one in its place.
+pub type WriteCall<'a> = &'a dyn Fn(&calls::Given, &mut [u8], &mut [u64; 2]);
+
 #[derive(Default)]
 pub struct WritingDesk {
     parts: [Loan<u8>; PARTS],
@@ -37,6 +41,17 @@ impl WritingDesk {
         room: usize,
         spots: &Spots,
     ) -> Told<[u64; 2]> {
+        self.write_by(&written, given, flag, room, spots)
+    }
+
+    pub fn write_by(
+        &mut self,
+        call: WriteCall,
+        given: &Given,
+        flag: Flag,
+        room: usize,
+        spots: &Spots,
+    ) -> Told<[u64; 2]> {
         let laid = words::parts(given);
         for ((loan, part), spot) in self.parts.iter_mut().zip(laid).zip(spots.parts) {
             loan.lay(part, spot);
@@ -45,7 +60,7 @@ impl WritingDesk {
         self.answer.clear(2, spots.answer);
         let answer = lending::words(self.answer.lent_mut());
         let parts = self.parts.each_ref().map(Loan::lent);
-        words::lent(given, parts, flag).write(self.out.lent_mut(), answer);
+        call(&words::lent(given, parts, flag), self.out.lent_mut(), answer);
         let answer = *answer;
         self.is_sound(answer, laid, room)?;
         Ok(answer)
@@ -71,4 +86,9 @@ impl WritingDesk {
             _ => Err(format!("write answers {answer:?} and writes behind what it reports")),
         }
     }
+}
+
+/// The library's own writer.
+pub fn written(given: &calls::Given, out: &mut [u8], answer: &mut [u64; 2]) {
+    given.write(out, answer);
 }

@@ -4,7 +4,7 @@
 mod desk;
 mod words;
 
-pub use desk::{Spots, WritingDesk};
+pub use desk::{written, Spots, WriteCall, WritingDesk};
 pub use words::{Flag, Shown};
 
 use crate::making::{self, MadeGiven, Writer};
