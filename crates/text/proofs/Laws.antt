@@ -1,19 +1,21 @@
--- Text an octet at a time.
+-- Text, an octet and a sequence at a time.
 use mathlib.Core.Path.{_≡_, refl, sym, ap, _∙_}
-use mathlib.Core.Bool.{Bool, true, false, cond}
+use mathlib.Core.Bool.{Bool, true, false, cond, false≢true}
 use mathlib.Core.List.{List, [], _∷_}
+use mathlib.Core.Logic.{inl}
 use Prim.Native.Nat.{ℕ, zero, suc, _+_, _-_, _≤_, _<_}
 use native.Mathlib.Omega.{arith}
 use borrow.Author.Tests.{le-leb, lt-leb}
-use lib.Dec.{eqb, eqb·suc-zero}
+use lib.Dec.{eqb, leb}
 use lib.ListN.{length, drop, getD, drop-of-length-le}
 use lib.Seq.{drop-cons}
 use Rattle.form_spec.specs.Words.{choose, inRange}
 use Rattle.octets_laws.proofs.Rules.{inside, below, above}
-use Rattle.text_spec.specs.Check.{ones, least, most, startOf, started, goesOn}
+use Rattle.text_spec.specs.Check.{ones, least, most, startOf, started, goesOn, isText}
 use Rattle.text_spec.specs.declared.Start.{Start}
 use Rattle.text_spec.specs.declared.Start.the-variants.{Then, Bad}
-use Rattle.text.specs.Next.{nextOf}
+use Rattle.text_laws.proofs.Sequence.{form-over}
+use Rattle.text.specs.Over.{Over, Ends}
 
 -- ---- what a first octet tells, by its class
 
@@ -38,59 +40,120 @@ module _ (x : ℕ) where
   unfolding startOf choose
   four l h e k p q = rw (e, le-leb x 244 k, p, q)
 
--- ---- what the next one tells
+-- no sequence has more than three behind its first
+abbrev Few : Start → Type 0
+Few (Then n l h) = n ≤ 3
+Few Bad = Unit
 
-module _ (x more low high : ℕ) where
-  pub starts : more ≡ 0 → startOf x ≡ nextOf x more low high
-  unfolding nextOf
-  starts e = rw e
+few-choose : (b : Bool) (s t : Start) → Few s → Few t → Few (choose b s t)
+unfolding choose
+few-choose true s t f g = f
+few-choose false s t f g = g
 
-  more-than-none : 0 < more → choose (inRange low x high) (Then (more - 1) 128 191) Bad ≡ nextOf x more low high
-  unfolding nextOf
-  more-than-none h = go more h
-    where
-      go : (n : ℕ) → 0 < n → choose (inRange low x high) (Then (n - 1) 128 191) Bad ≡ nextOf x n low high
-      go zero h = absurd (omega arith)
-      go (suc n) h = let e : suc n - 1 ≡ n = omega arith in rw e
+few : (x : ℕ) → Few (startOf x)
+unfolding startOf
+few x =
+    few-choose (eqb (ones x) 0) _ _ (omega arith)
+    (few-choose (eqb (ones x) 2) _ _ (few-choose (leb 194 x) _ _ (omega arith) tt)
+    (few-choose (eqb (ones x) 3) _ _ (omega arith)
+    (few-choose (eqb (ones x) 4) _ _ (few-choose (leb x 244) _ _ (omega arith) tt) tt)))
 
-  pub too-low : 0 < more → x < low → Bad ≡ nextOf x more low high
-  unfolding choose
-  too-low h k = rw (below low x high k) at (more-than-none h)
+pub at-most-three : (x n l h : ℕ) (r : Start) → r ≡ startOf x → r ≡ Then n l h → n ≤ 3
+at-most-three x n l h r p q = rw (sym p ∙ q) at (few x)
 
-  pub too-high : 0 < more → high < x → Bad ≡ nextOf x more low high
-  unfolding choose
-  too-high h k = rw (above low x high k) at (more-than-none h)
+-- ---- octets that belong to a sequence
 
-  pub belongs : 0 < more → low ≤ x → x ≤ high → Then (more - 1) 128 191 ≡ nextOf x more low high
-  unfolding choose
-  belongs h k l = rw (inside low x high k l) at (more-than-none h)
+module _ (m : List ℕ) (at low high : ℕ) where
+  -- the next octet, where it is there
+  next : at < length m → (k : ℕ) → goesOn (drop at m) (1 + k) low high ≡ cond (inRange low (getD m at 0) high) (goesOn (drop (at + 1) m) k 128 191) false
+  unfolding goesOn
+  next h k =
+      let z : at + 1 ≡ suc at = omega arith in
+      let s : 1 + k ≡ suc k = omega arith in
+      rw (z, s, drop-cons m at 0 h)
 
--- ---- the check by the next octet
+  pub not-there : length m ≤ at → Over m at 1 low high false
+  unfolding goesOn
+  not-there h =
+      let s : (k : ℕ) → 1 + k ≡ suc k = λ k. omega arith in
+      record { yes = λ e. absurd (false≢true e); no = λ e k. rw (s k, drop-of-length-le m h) }
 
-taken : (x : ℕ) (rest : List ℕ) (more low high : ℕ) → goesOn (x ∷ rest) more low high ≡ started (goesOn rest) (nextOf x more low high)
-unfolding goesOn nextOf choose
-taken x rest zero low high = refl
-taken x rest (suc n) low high = go (inRange low x high)
-  where
-    go : (b : Bool) → cond b (goesOn rest n 128 191) false ≡ started (goesOn rest) (cond b (Then n 128 191) Bad)
-    go true = refl
-    go false = refl
+  pub too-low : at < length m → getD m at 0 < low → Over m at 1 low high false
+  too-low h p = record { yes = λ e. absurd (false≢true e); no = λ e k. next h k ∙ rw (below low (getD m at 0) high p) }
 
-module _ (m : List ℕ) (at more low high : ℕ) (r : Start) (there : at < length m) (told : r ≡ nextOf (getD m at 0) more low high) where
-  step : goesOn (drop at m) more low high ≡ started (goesOn (drop (suc at) m)) r
-  step = ap (λ (l : List ℕ). goesOn l more low high) (drop-cons m at 0 there) ∙ taken (getD m at 0) (drop (suc at) m) more low high ∙ ap (started (goesOn (drop (suc at) m))) (sym told)
+  pub up-to : at < length m → low ≤ getD m at 0 → Over m at 1 low high (leb (getD m at 0) high)
+  unfolding inRange
+  up-to h p =
+      record {
+        yes = λ e. (omega arith, λ k. next h k ∙ rw (le-leb low (getD m at 0) p, e));
+        no = λ e k. next h k ∙ rw (le-leb low (getD m at 0) p, e);
+      }
 
-  pub goes : (n l h : ℕ) → r ≡ Then n l h → goesOn (drop (at + 1) m) n l h ≡ goesOn (drop at m) more low high
-  goes n l h e = let z : at + 1 ≡ suc at = omega arith in rw z (sym (step ∙ ap (started (goesOn (drop (suc at) m))) e))
+  -- one, and so many behind it
+  pub one-and : (n : ℕ) (s r : Bool) → Over m at 1 low high s → s ≡ true → Over m (at + 1) n 128 191 r → Over m at (1 + n) low high r
+  one-and n s r f t g =
+      let z : at + 1 + n ≡ at + (1 + n) = omega arith in
+      let a : (k : ℕ) → 1 + n + k ≡ 1 + (n + k) = λ k. omega arith in
+      record {
+        yes = λ e. let w = g .yes e in (omega (arith, w .0), λ k. rw (a k) (f .yes t .1 (n + k) ∙ rw z at (w .1 k)));
+        no = λ e k. rw (a k) (f .yes t .1 (n + k) ∙ g .no e k);
+      }
 
-  pub stops : r ≡ Bad → false ≡ goesOn (drop at m) more low high
-  stops e = sym (step ∙ ap (started (goesOn (drop (suc at) m))) e)
+  -- not even one
+  pub not-one : (n : ℕ) (s : Bool) → Over m at 1 low high s → s ≡ false → Over m at (1 + n) low high false
+  not-one n s f t =
+      let a : (k : ℕ) → 1 + n + k ≡ 1 + (n + k) = λ k. omega arith in
+      record { yes = λ e. absurd (false≢true e); no = λ e k. rw (a k) (f .no t (n + k)) }
 
--- at the end none may be to come
-pub ends : (m : List ℕ) (at more low high : ℕ) → length m ≤ at → eqb more 0 ≡ goesOn (drop at m) more low high
+-- ---- a sequence
+
+-- where no octet is to come, the range says nothing
+idle : (bs : List ℕ) (low high : ℕ) → goesOn bs 0 low high ≡ isText bs
 unfolding goesOn
-ends m at more low high h = go more ∙ sym (ap (λ (l : List ℕ). goesOn l more low high) (drop-of-length-le m h))
-  where
-    go : (n : ℕ) → eqb n 0 ≡ goesOn [] n low high
-    go zero = refl
-    go (suc n) = eqb·suc-zero n
+idle [] low high = refl
+idle (x ∷ rest) low high = refl
+
+module _ (m : List ℕ) (at : ℕ) (r : Start) (there : at < length m) (told : r ≡ startOf (getD m at 0)) where
+  starts : isText (drop at m) ≡ started (goesOn (drop (at + 1) m)) r
+  unfolding goesOn
+  starts = let z : at + 1 ≡ suc at = omega arith in rw (z, drop-cons m at 0 there, told)
+
+  pub no-start : r ≡ Bad → Ends m at 0
+  no-start e = record { some = λ h. absurd (omega arith); none = λ h. rw e at starts }
+
+  module _ (n low high : ℕ) (is : r ≡ Then n low high) where
+    goes : isText (drop at m) ≡ goesOn (drop (at + 1) m) n low high
+    goes = rw is at starts
+
+    -- one octet
+    pub alone : n ≡ 0 → Ends m at (at + 1)
+    alone e = record { some = λ h. (omega arith, omega arith, goes ∙ rw e (idle (drop (at + 1) m) low high)); none = λ h. absurd (omega arith) }
+
+    -- or more
+    pub more-belong : (s : Bool) → Over m (at + 1) n low high s → s ≡ true → Ends m at (at + 1 + n)
+    more-belong s f t =
+        let w = f .yes t in
+        let z : n + 0 ≡ n = omega arith in
+        record { some = λ h. (omega arith, w .0, goes ∙ rw z at (w .1 0)); none = λ h. absurd (omega arith) }
+
+    pub more-lack : (s : Bool) → Over m (at + 1) n low high s → s ≡ false → Ends m at 0
+    more-lack s f t =
+        let z : n + 0 ≡ n = omega arith in
+        record { some = λ h. absurd (omega arith); none = λ h. goes ∙ rw z at (f .no t 0) }
+
+-- ---- all of them
+
+-- an octet of 7 bits is a sequence by itself
+pub plain-over : (m : List ℕ) (at : ℕ) → at < length m → getD m at 0 ≤ 127 → isText (drop (at + 1) m) ≡ isText (drop at m)
+plain-over m at h p =
+    let z : at + 1 ≡ suc at = omega arith in
+    rw (z, drop-cons m at 0 h) (sym (form-over (getD m at 0 ∷ []) (drop (suc at) m) (inl (omega arith))))
+
+-- the greatest octet so far is at least the one before and the one at hand
+pub greatest-over : (m : List ℕ) (at old new : ℕ) → at < length m → (old ≤ 127 → isText (drop at m) ≡ isText m) → (old ≤ new) × (getD m at 0 ≤ new) → new ≤ 127 → isText (drop (at + 1) m) ≡ isText m
+greatest-over m at old new h i b n = plain-over m at h (omega arith) ∙ i (omega arith)
+
+-- nothing is left
+pub all-over : (m : List ℕ) (at : ℕ) → length m ≤ at → isText (drop at m) ≡ true
+unfolding goesOn
+all-over m at h = rw (drop-of-length-le m h)

@@ -1,7 +1,10 @@
 // Text in UTF-8.
 ghost use mathlib.Core.Path.{_≡_};
+ghost use mathlib.Core.Bool.{true};
+ghost use Prim.Native.Nat.{_≤_, _<_};
+ghost use lib.ListN.{length};
 ghost use Rattle.text_spec.specs.Check.{least, most, startOf, isText};
-ghost use Rattle.text.specs.Next.{nextOf};
+ghost use Rattle.text.specs.Over.{Over, Ends};
 use text_spec::Start;
 
 // The least second octet of a sequence that starts with x.
@@ -54,38 +57,107 @@ fn start_of(x: u8) -> Start
     }
 }
 
-// What x tells, the next octet: so many are still to come of the sequence at hand, this one from `low` to `high`.
-fn next_of(x: u8, more: u8, low: u8, high: u8) -> Start
-    ensures { λ r. ⌜ r ≡ nextOf x more low high ⌝ }
+// The octet at `at`, where it belongs to a sequence and lies from `low` to `high`.
+fn one_more(m: &[u8], at: usize, low: u8, high: u8) -> bool
+    ensures { λ r. ⌜ Over (now (m .entry)) at 1 low high r ⌝ }
 {
-    if more == 0 {
-        return start_of(x);
+    if m.len() <= at {
+        return false;
     }
+    let x = m[at];
     if x < low {
-        return Start::Bad;
+        return false;
     }
-    if high < x {
-        return Start::Bad;
+    x <= high
+}
+
+// That one and another.
+fn two_more(m: &[u8], at: usize, low: u8, high: u8) -> bool
+    ensures { λ r. ⌜ Over (now (m .entry)) at 2 low high r ⌝ }
+{
+    if one_more(m, at, low, high) {
+        return one_more(m, at + 1, 128, 191);
     }
-    Start::Then(more - 1, 128, 191)
+    false
+}
+
+// And a third.
+fn three_more(m: &[u8], at: usize, low: u8, high: u8) -> bool
+    ensures { λ r. ⌜ Over (now (m .entry)) at 3 low high r ⌝ }
+{
+    if one_more(m, at, low, high) {
+        return two_more(m, at + 1, 128, 191);
+    }
+    false
+}
+
+// Each number of octets apart: a loop's end would be mispredicted where neighbours differ in length.
+fn go_on(m: &[u8], at: usize, more: u8, low: u8, high: u8) -> bool
+    requires { ⌜ (0 < more) × (more ≤ 3) ⌝ }
+    ensures { λ r. ⌜ Over (now (m .entry)) at more low high r ⌝ }
+{
+    match more {
+        1 => one_more(m, at, low, high),
+        2 => two_more(m, at, low, high),
+        _ => three_more(m, at, low, high),
+    }
+}
+
+// Where the sequence at `at` ends; 0 where none stands there.
+fn sequence_end(m: &[u8], at: usize) -> usize
+    requires { ⌜ at < length (now m) ⌝ }
+    ensures { λ r. ⌜ Ends (now (m .entry)) at r ⌝ }
+{
+    let Start::Then(more, low, high) = start_of(m[at]) else {
+        return 0;
+    };
+    let next = at + 1;
+    if more == 0 {
+        return next;
+    }
+    if go_on(m, next, more, low, high) {
+        return next + more as usize;
+    }
+    0
+}
+
+// Whether all octets have 7 bits, and so are a sequence each. All are looked at: a loop without a way out is made wide.
+fn seven_bits(m: &[u8]) -> bool
+    ensures { λ r. ⌜ (r ≡ true → isText (now (m .entry)) ≡ true) ⌝ }
+{
+    let mut most = 0u8;
+    let mut at = 0;
+    while at < m.len() {
+        let x = m[at];
+        if most < x {
+            most = x;
+        }
+        at += 1;
+    }
+    most <= 127
+}
+
+// Whether m is text, sequence by sequence.
+fn all_sequences(m: &[u8]) -> bool
+    ensures { λ r. ⌜ r ≡ isText (now (m .entry)) ⌝ }
+{
+    let mut at = 0;
+    while at < m.len() {
+        let end = sequence_end(m, at);
+        if end == 0 {
+            return false;
+        }
+        at = end;
+    }
+    true
 }
 
 // Whether m is text.
 pub fn is_text(m: &[u8]) -> bool
     ensures { λ r. ⌜ r ≡ isText (now (m .entry)) ⌝ }
 {
-    let mut at = 0;
-    let mut more = 0u8;
-    let mut low = 128u8;
-    let mut high = 191u8;
-    while at < m.len() {
-        let Start::Then(n, l, h) = next_of(m[at], more, low, high) else {
-            return false;
-        };
-        more = n;
-        low = l;
-        high = h;
-        at += 1;
+    if seven_bits(m) {
+        return true;
     }
-    more == 0
+    all_sequences(m)
 }
