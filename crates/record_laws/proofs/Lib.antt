@@ -25,3 +25,4 @@ pub mod Fair
 pub mod ReadBack
 pub mod AsReader
 pub mod Placed
+pub mod Names
