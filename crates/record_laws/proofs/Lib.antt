@@ -25,4 +25,5 @@ pub mod Fair
 pub mod ReadBack
 pub mod AsReader
 pub mod Placed
+pub mod Head
 pub mod Names
