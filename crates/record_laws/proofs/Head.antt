@@ -43,7 +43,7 @@ nameOf bs = take (numAt bs 4 2) (drop 6 bs)
 -- cut short, not text, or text
 pub by-name : (Z : Out (List (List ℕ)) → Type 0) (at : ℕ) (bs : List ℕ) → (length bs < 6 + numAt bs 4 2 → (p : ℕ) → Z (bad 5 p))
     → (6 + numAt bs 4 2 ≤ length bs → isText (nameOf bs) ≡ false → (p : ℕ) → Z (bad 17 p))
-    → ((cs : List (List ℕ)) (r : List ℕ) → isText (nameOf bs) ≡ true → Z (good cs r))
+    → (6 + numAt bs 4 2 ≤ length bs → isText (nameOf bs) ≡ true → (cs : List (List ℕ)) (r : List ℕ) → Z (good cs r))
     → Z (read (tableHead (end 0)) at bs)
 unfolding num tested numAt
 by-name Z at bs short wrong right =
@@ -55,8 +55,8 @@ by-name Z at bs short wrong right =
     by-field Y viewLength 2 0 _ (at + 4) (drop 4 bs) (λ h. short (omega (arith, length-drop 4 bs))) λ b.
     rw d
     (by-field X viewName n 0 _ (at + 4 + 2) (drop 6 bs) (λ h. short (omega (arith, length-drop 6 bs))) λ c.
-    by-check (λ o. X (bind o (λ cs r. good (nameOf bs ∷ cs) r))) (isText (nameOf bs)) 16 n (at + 4 + 2 + n) (drop n (drop 6 bs))
-    (wrong (omega (arith, length-drop 4 bs, length-drop 6 bs))) (right _ _))
+    let held : 6 + n ≤ length bs = omega (arith, length-drop 4 bs, length-drop 6 bs) in
+    by-check (λ o. X (bind o (λ cs r. good (nameOf bs ∷ cs) r))) (isText (nameOf bs)) 16 n (at + 4 + 2 + n) (drop n (drop 6 bs)) (wrong held) (λ e. right held e _ _))
 
 -- ---- in a record
 
@@ -78,7 +78,7 @@ abbrev pub messageIn : List ℕ → List ℕ
 messageIn s = take (numAt s 8 4) (drop 12 s)
 
 module _ (s : List ℕ) (whole : 12 + numAt s 8 4 ≤ length s) where
-  pub message-long : length (messageIn s) ≡ numAt s 8 4
+  message-long : length (messageIn s) ≡ numAt s 8 4
   message-long = length-take-le (numAt s 8 4) (drop 12 s) (rw length-drop (omega arith))
 
   -- a part of the message, where it stands in the record
@@ -88,9 +88,16 @@ module _ (s : List ℕ) (whole : 12 + numAt s 8 4 ≤ length s) where
       sym (part-first (messageIn s) (drop n (drop 12 s)) i w (omega (arith, message-long)))
       ∙ ap (λ (x : List ℕ). take w (drop i x)) (take-append-drop n (drop 12 s)) ∙ ap (take w) (drop-drop i 12 s)
 
-  pub length-in-message : 6 ≤ numAt s 8 4 → numAt (messageIn s) 4 2 ≡ numAt s 16 2
+  length-in-message : 6 ≤ numAt s 8 4 → numAt (messageIn s) 4 2 ≡ numAt s 16 2
   unfolding numAt
   length-in-message h = ap be (in-message 4 2 h)
+
+  -- all of the name is in the message, if all of it is in what is left of the record
+  pub held-in-message : 6 + numAt s 16 2 ≤ numAt s 8 4 → 6 + numAt (messageIn s) 4 2 ≤ length (messageIn s)
+  held-in-message h = omega (arith, message-long, length-in-message (omega arith))
+
+  pub held-in-record : 6 + numAt (messageIn s) 4 2 ≤ length (messageIn s) → 6 + numAt s 16 2 ≤ numAt s 8 4
+  held-in-record h = omega (arith, message-long, length-in-message (omega (arith, message-long)))
 
   pub name-in-message : 6 + numAt s 16 2 ≤ numAt s 8 4 → nameOf (messageIn s) ≡ nameIn s
   name-in-message h = rw (length-in-message (omega arith)) (in-message 6 (numAt s 16 2) h)

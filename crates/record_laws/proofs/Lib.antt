@@ -26,4 +26,5 @@ pub mod ReadBack
 pub mod AsReader
 pub mod Placed
 pub mod Head
+pub mod Faults
 pub mod Names
