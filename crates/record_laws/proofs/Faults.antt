@@ -10,7 +10,7 @@ use borrow.Author.Tests.{ltb-false}
 use Rattle.form_spec.specs.Octets.{be}
 use Rattle.form_spec.specs.Fmt.{Out, bad, good, bind, guard, refuseIf, Fmt, end, test, field, read, join}
 use Rattle.form_spec.specs.Words.{choose, num, skip, must, fail, checked, tested, area, inRange}
-use Rattle.form_spec.specs.Body.{readN, Plan, just, free, many, Body, plain, listed, ended, readBody}
+use Rattle.form_spec.specs.Body.{readN, just, many, Body, plain, listed, ended, readBody}
 use Rattle.form_spec.specs.Shape.{entries, indexed, St, noTable, withPeers, plan}
 use Rattle.form_spec.specs.Record.{readRec}
 use Rattle.form_spec.specs.Found.{faultNumber}
@@ -26,7 +26,7 @@ use Rattle.page_spec.specs.declared.Kind.{Kind}
 use Rattle.page_spec.specs.declared.Kind.the-variants.{Refused, Unread, TableDump, PeerTable, Rib, RibGeneric, Change, Message}
 use Rattle.page_laws.proofs.Choice.{Says, by-test, kind-says}
 use Rattle.record_laws.proofs.One.{rec-header, short-header}
-use Rattle.record_laws.proofs.Head.{by-name, nameOf, WholeTable, Named, nameIn, messageIn, held-in-record, name-in-message}
+use Rattle.record_laws.proofs.Head.{by-name, nameOf, Named, nameIn, messageIn, held-in-record, name-in-message}
 
 -- ---- formats whose own checks give no other numbers than those up to 13
 
