@@ -40,7 +40,7 @@ by-check Z false n b at bs wrong right = wrong refl (at - b)
 abbrev pub nameOf : List ℕ → List ℕ
 nameOf bs = take (numAt bs 4 2) (drop 6 bs)
 
--- cut short, not text, or text
+-- what is found in the head: 5 where the name is cut short, 17 where all of it is there and is not text, and else its fields
 pub by-name : (Z : Out (List (List ℕ)) → Type 0) (at : ℕ) (bs : List ℕ) → (length bs < 6 + numAt bs 4 2 → (p : ℕ) → Z (bad 5 p))
     → (6 + numAt bs 4 2 ≤ length bs → isText (nameOf bs) ≡ false → (p : ℕ) → Z (bad 17 p))
     → (6 + numAt bs 4 2 ≤ length bs → isText (nameOf bs) ≡ true → (cs : List (List ℕ)) (r : List ℕ) → Z (good cs r))
@@ -66,11 +66,12 @@ pub record WholeTable (s : List ℕ) : Type 0 where
   pub sub : numAt s 6 2 ≡ 1
   pub whole : 12 + numAt s 8 4 ≤ length s
 
--- and its message holds all of the view name that it tells the length of
+-- and its message holds all of the view name, as long as that is told to be
 pub record Named (s : List ℕ) : Type 0 where
   pub table : WholeTable s
   pub held : 6 + numAt s 16 2 ≤ numAt s 8 4
 
+-- that name, and the message
 abbrev pub nameIn : List ℕ → List ℕ
 nameIn s = take (numAt s 16 2) (drop 18 s)
 
@@ -78,6 +79,7 @@ abbrev pub messageIn : List ℕ → List ℕ
 messageIn s = take (numAt s 8 4) (drop 12 s)
 
 module _ (s : List ℕ) (whole : 12 + numAt s 8 4 ≤ length s) where
+  -- as long as its Length says
   message-long : length (messageIn s) ≡ numAt s 8 4
   message-long = length-take-le (numAt s 8 4) (drop 12 s) (rw length-drop (omega arith))
 
@@ -88,16 +90,18 @@ module _ (s : List ℕ) (whole : 12 + numAt s 8 4 ≤ length s) where
       sym (part-first (messageIn s) (drop n (drop 12 s)) i w (omega (arith, message-long)))
       ∙ ap (λ (x : List ℕ). take w (drop i x)) (take-append-drop n (drop 12 s)) ∙ ap (take w) (drop-drop i 12 s)
 
+  -- the length of the name, where the message holds that
   length-in-message : 6 ≤ numAt s 8 4 → numAt (messageIn s) 4 2 ≡ numAt s 16 2
   unfolding numAt
   length-in-message h = ap be (in-message 4 2 h)
 
-  -- all of the name is in the message, if all of it is in what is left of the record
+  -- that the message holds all of the name, said of the message and of the record
   pub held-in-message : 6 + numAt s 16 2 ≤ numAt s 8 4 → 6 + numAt (messageIn s) 4 2 ≤ length (messageIn s)
   held-in-message h = omega (arith, message-long, length-in-message (omega arith))
 
   pub held-in-record : 6 + numAt (messageIn s) 4 2 ≤ length (messageIn s) → 6 + numAt s 16 2 ≤ numAt s 8 4
   held-in-record h = omega (arith, message-long, length-in-message (omega (arith, message-long)))
 
+  -- which is then the same
   pub name-in-message : 6 + numAt s 16 2 ≤ numAt s 8 4 → nameOf (messageIn s) ≡ nameIn s
   name-in-message h = rw (length-in-message (omega arith)) (in-message 6 (numAt s 16 2) h)
