@@ -68,7 +68,7 @@ told Absent noTable h f g (plain cs) fits = absurd (omega (arith, fits .0))
 told (Holds n) (withPeers ns) h f g b fits = (n, refl)
 
 module _ (longest : ℕ) (t : Table) (st : St) (tells : Tells t st) (s : List ℕ) (oc : Octets s) (r : Rec) (q : List ℕ) (reads : readRec (layout longest) st 0 s ≡ good r q) where
-  right : Valid (layout longest) st r × (write r ++ q ≡ s)
+  pub right : Valid (layout longest) st r × (write r ++ q ≡ s)
   right = subst (Right (Valid (layout longest) st) write s) reads (sound-rec (layout longest) st 0 s oc)
 
   -- the record's octets and those that are left

@@ -25,3 +25,6 @@ pub mod Fair
 pub mod ReadBack
 pub mod AsReader
 pub mod Placed
+pub mod Head
+pub mod Faults
+pub mod Names

@@ -18,7 +18,7 @@ use Rattle.record_spec.specs.Table.{stateOf}
 use Rattle.record_laws.proofs.Accepts.{no-octets, tells-table}
 use Rattle.record_laws.proofs.One.{one-record}
 
-answers : (longest : ℕ) (s : List ℕ) (o : Out Rec) (x : Shown) → Agrees longest s o x → (fault x ≡ faultNumber o) × (place x ≡ placeIn o)
+pub answers : (longest : ℕ) (s : List ℕ) (o : Out Rec) (x : Shown) → Agrees longest s o x → (fault x ≡ faultNumber o) × (place x ≡ placeIn o)
 answers longest s (bad n p) x a = (ap fault a, ap place a)
 answers longest s (good r q) x a = (a .accepted, a .ends)
 

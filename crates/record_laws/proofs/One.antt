@@ -8,7 +8,7 @@ use lib.Dec.{ltb}
 use lib.ListN.{length, take, drop, length-drop, take-append-drop}
 use lib.Seq.{drop-drop, drop-at, take-add, length-take-le, take-append-le, drop-append-le}
 use borrow.Author.Tests.{le-ltb, ltb-false, ne-eqb}
-use Rattle.form_spec.specs.Octets.{Octets}
+use Rattle.form_spec.specs.Octets.{Octets, be}
 use Rattle.form_spec.specs.Fmt.{bad, good, bind, refuseIf, read}
 use Rattle.form_spec.specs.Words.{choose}
 use Rattle.form_spec.specs.Body.{readBody}
@@ -69,9 +69,9 @@ module _ (longest : ℕ) (s m q : List ℕ) (l : Stands s m q (numAt m 8 4)) (ta
 
 -- ---- the header
 
-read-header : (s : List ℕ) → 12 ≤ length s → read header 0 s ≡ good (take 4 s ∷ take 2 (drop 4 s) ∷ take 2 (drop 6 s) ∷ take 4 (drop 8 s) ∷ []) (drop 12 s)
+read-header : (at : ℕ) (s : List ℕ) → 12 ≤ length s → read header at s ≡ good (take 4 s ∷ take 2 (drop 4 s) ∷ take 2 (drop 6 s) ∷ take 4 (drop 8 s) ∷ []) (drop 12 s)
 unfolding read
-read-header s h =
+read-header at s h =
     let a : 4 ≤ length s = omega arith in
     let b : 2 ≤ length (drop 4 s) = rw length-drop (omega arith) in
     let c : 2 ≤ length (drop 6 s) = rw length-drop (omega arith) in
@@ -79,25 +79,28 @@ read-header s h =
     rw (le-ltb _ _ a, le-ltb _ _ b, drop-drop 2 4 s, le-ltb _ _ c, drop-drop 2 6 s, le-ltb _ _ d, drop-drop 4 8 s)
 
 -- a record, by its header's numbers
-rec-header : (longest : ℕ) (st : St) (s : List ℕ) → 12 ≤ length s
-    → readRec (layout longest) st 0 s ≡ refuseIf (ltb (length s - 12) (numAt s 8 4)) 2 0
-    (bind (readBody (plan st (layout longest (numAt s 4 2) (numAt s 6 2))) 12 (take (numAt s 8 4) (drop 12 s)))
+pub rec-header : (longest : ℕ) (st : St) (at : ℕ) (s : List ℕ) → 12 ≤ length s
+    → readRec (layout longest) st at s ≡ refuseIf (ltb (length s - 12) (numAt s 8 4)) 2 at
+    (bind (readBody (plan st (layout longest (numAt s 4 2) (numAt s 6 2))) (at + 12) (take (numAt s 8 4) (drop 12 s)))
     (λ b q. good (rec (numAt s 0 4) (numAt s 4 2) (numAt s 6 2) b) (drop (numAt s 8 4) (drop 12 s))))
 unfolding readRec numAt
-rec-header longest st s h = rw (le-ltb (length s) 12 h, read-header s h, length-drop 12 s)
+rec-header longest st at s h = rw (le-ltb (length s) 12 h, read-header at s h, length-drop 12 s)
 
--- a number in the first octets
-pub numAt-first : (m r : List ℕ) (i w : ℕ) → i + w ≤ length m → numAt (m ++ r) i w ≡ numAt m i w
-unfolding numAt
-numAt-first m r i w h =
+-- a part of the first octets, and a number in them
+pub part-first : (m r : List ℕ) (i w : ℕ) → i + w ≤ length m → take w (drop i (m ++ r)) ≡ take w (drop i m)
+part-first m r i w h =
     let a : i ≤ length m = omega arith in
     let b : w ≤ length (drop i m) = rw length-drop (omega arith) in
     rw (drop-append-le i m r a, take-append-le w (drop i m) r b)
 
+pub numAt-first : (m r : List ℕ) (i w : ℕ) → i + w ≤ length m → numAt (m ++ r) i w ≡ numAt m i w
+unfolding numAt
+numAt-first m r i w h = ap be (part-first m r i w h)
+
 -- too few octets for one
-short-header : (longest : ℕ) (st : St) (s : List ℕ) → ltb (length s) 12 ≡ true → readRec (layout longest) st 0 s ≡ bad 1 0
+pub short-header : (longest : ℕ) (st : St) (at : ℕ) (s : List ℕ) → ltb (length s) 12 ≡ true → readRec (layout longest) st at s ≡ bad 1 at
 unfolding readRec
-short-header longest st s e = rw e
+short-header longest st at s e = rw e
 
 -- ---- the law
 
@@ -131,5 +134,5 @@ one-record longest t st tells s oc h = rw (ne-eqb (length s) 0 (λ e. omega arit
 
     start : (b : Bool) → ltb (length s) 12 ≡ b
         → Agrees longest s (readRec (layout longest) st 0 s) (choose b (Refused 1 0) (choose (ltb (length s - 12) (numAt s 8 4)) (Refused 2 0) (wholeRecord longest t (take (12 + numAt s 8 4) s))))
-    start true e = rw (short-header longest st s e)
-    start false e = rw (rec-header longest st s (ltb-false _ _ e)) (size (ltb (length s - 12) (numAt s 8 4)) (ltb-false _ _ e) refl)
+    start true e = rw (short-header longest st 0 s e)
+    start false e = rw (rec-header longest st 0 s (ltb-false _ _ e)) (size (ltb (length s - 12) (numAt s 8 4)) (ltb-false _ _ e) refl)

@@ -1,6 +1,7 @@
 -- The check passes exactly text: by the grammar, whose sequences are the spellings of scalar values.
-use mathlib.Core.Path.{_≡_, refl}
-use mathlib.Core.Bool.{true}
+use mathlib.Core.Path.{_≡_, refl, sym, _∙_}
+use mathlib.Core.Bool.{Bool, true, false, false≢true}
+use mathlib.Core.Logic.{_↔_}
 use mathlib.Core.List.{List, [], _∷_, map}
 use Prim.Native.Nat.{ℕ}
 use Rattle.form_spec.specs.Fmt.{join}
@@ -39,3 +40,10 @@ passes bs t = parsed-passes bs (spelled-parsed bs (t .values) (t .spelled))
 
 pub spelled : (bs : List ℕ) → isText bs ≡ true → Text bs
 spelled bs e = let p = passes-parsed bs e in rw (p .joined) at (joined-text (p .parts) (p .formed))
+
+pub fails : (bs : List ℕ) → (isText bs ≡ false) ↔ (Text bs → ⊥)
+fails bs = (λ e t. false≢true (sym e ∙ passes bs t), go (isText bs) refl)
+  where
+    go : (b : Bool) → isText bs ≡ b → (Text bs → ⊥) → isText bs ≡ false
+    go true e h = absurd (h (spelled bs e))
+    go false e h = e

@@ -10,6 +10,9 @@
 --   layout         page_spec/specs/Layout    document 01's layouts, by Type and Subtype
 --   Valid, write   form_spec/specs/Record    a well-formed record where a table is in force; its octets
 --   Splits         form_spec/specs/Dump      whole records, each valid where it stands, whose octets are the dump
+--   Text, Spelled  text_spec/specs/Text      octets that spell scalar values in UTF-8; the octets of these values
+--   Parsed         text_spec/specs/Grammar   the octets are sequences of the forms in RFC 3629's grammar
+--   isText         text_spec/specs/Check     the check that goes octet by octet
 --   Tells          record_spec/specs/Tells   what a reader is told of the table in force
 --   Agrees, Same   record_spec/specs/Agrees  refused with the same number and place, or shown with every field as it is in the octets
 --   again          record_spec/specs/Again   what is shown, handed to a writer
@@ -19,6 +22,8 @@
 --   unjudgedAt     dagsumilat_spec/specs/Unjudged  what the call for an entry shows
 --   Fair           record_laws/proofs/Written  fields of the form that a writer takes
 --   numberAt       record_spec/specs/Reads   the number that reading gives the record that starts the octets
+--   WholeTable     record_laws/proofs/Head   a whole record of Type 13, Subtype 1, starts the octets; with `Named`: its message holds all of the
+--                                            view name, which is `nameIn`
 --   Own, Placed    write_spec/specs/Only, form_spec/specs/Aligned  whose a record is; each number goes into its field, each part has its size
 --   numberFor      room_spec/specs/Room      the fault, then 15
 --   listing        listing_spec/specs/Text   the text that the program prints
@@ -44,6 +49,10 @@ use Rattle.form_spec.specs.Record.{Rec, write, readRec, Valid}
 use Rattle.form_spec.specs.Dump.{Splits, walkFrom, nexts}
 use Rattle.form_spec.specs.Put.{Given, octets, recordRefusal}
 use Rattle.form_spec.specs.Aligned.{Placed}
+use Rattle.text_spec.specs.Text.{Text, Spelled}
+use Rattle.text_spec.specs.Grammar.{Parsed}
+use Rattle.text_spec.specs.Check.{isText}
+use Rattle.octets_spec.specs.Be.{numAt}
 use Rattle.page_spec.specs.Layout.{layout}
 use Rattle.page_spec.specs.Rib.{entry}
 use Rattle.page_spec.specs.declared.Kind.{Kind}
@@ -61,7 +70,7 @@ use Rattle.record_spec.specs.declared.Body.the-variants.{PeerTable, Rib, RibGen
 use Rattle.record_spec.specs.declared.Table.the-variants.{Holds}
 use Rattle.record_spec.specs.Table.{stateOf}
 use Rattle.record_spec.specs.One.{readOne}
-use Rattle.record_spec.specs.Answer.{fault, place, end, peerFault, peerEnd, entryFault, entryEnd}
+use Rattle.record_spec.specs.Answer.{fault, place, end, within, peerFault, peerEnd, entryFault, entryEnd}
 use Rattle.record_spec.specs.Reads.{numberAt, Reads}
 use Rattle.record_spec.specs.Items.{peerAt, entryAt, met, peerOf, entryOf, Each, Meets}
 use Rattle.room_spec.specs.Answer as written
@@ -74,6 +83,7 @@ use Rattle.record_spec.specs.Tells.{Tells}
 use Rattle.record_spec.specs.Agrees.{Agrees, Same, writerOf}
 use Rattle.record_spec.specs.Again.{again}
 use Rattle.record_laws.proofs.Written.{Fair}
+use Rattle.record_laws.proofs.Head.{WholeTable, Named, nameIn}
 use Rattle.walk_spec.specs.Walked.{walked}
 use Rattle.walk_spec.specs.Steps.{stepAt}
 use Rattle.walk_spec.specs.Answer.{Steps}
@@ -92,6 +102,9 @@ use Rattle.report_spec.specs.declared.Added.{Added}
 use Rattle.dagsumilat_spec.specs.declared.RecordAnswer.{RecordAnswer}
 use Rattle.dagsumilat_spec.specs.RecordAnswers.{tableByCount, answerAt}
 use Rattle.dagsumilat_spec.specs.Unjudged.{unjudgedAt}
+use Rattle.text_laws.proofs.Exactly as text
+use Rattle.text_laws.proofs.Rows as grammar
+use Rattle.text_laws.proofs.Unique as values
 use Rattle.room_laws.proofs.Room as room
 use Rattle.record_laws.proofs.One as one
 use Rattle.record_laws.proofs.Numbers as numbers
@@ -100,6 +113,7 @@ use Rattle.record_laws.proofs.Restores as restores
 use Rattle.record_laws.proofs.Written as writing
 use Rattle.record_laws.proofs.Item as item
 use Rattle.record_laws.proofs.Items as items
+use Rattle.record_laws.proofs.Names as names
 use Rattle.record_laws.proofs.AsReader as as-reader
 use Rattle.walk_laws.proofs.Demand2 as dumps
 use Rattle.walk_laws.proofs.Steps as steps
@@ -145,8 +159,21 @@ module _ (longest : ℕ) where
   pub fault-has-number-and-place : (t : Table) (st : St) → Tells t st → (s : List ℕ) → Octets s → 0 < length s → Agrees longest s (readRec (layout longest) st 0 s) (readOne longest t s)
   fault-has-number-and-place t st told s o some = one.one-record longest t st told s o some
 
-  -- ==== Demand 2. A dump is accepted exactly when it splits into whole records, and the records are what the bytes say.
+-- ==== Demand 2. A dump is accepted exactly when it splits into whole records, and the records are what the bytes say.
 
+-- a view name is text in UTF-8: the check passes exactly the octets that spell scalar values,
+pub text-passes-exactly : (bs : List ℕ) → (isText bs ≡ true) ↔ Text bs
+text-passes-exactly bs = (text.spelled bs, text.passes bs)
+
+-- which are exactly those that RFC 3629's grammar parses,
+pub parsed-passes-exactly : (bs : List ℕ) → (isText bs ≡ true) ↔ Parsed bs
+parsed-passes-exactly bs = (grammar.passes-parsed bs, grammar.parsed-passes bs)
+
+-- and octets spell one list of values at most
+pub text-spells-one-list : (bs us vs : List ℕ) → Spelled bs us → Spelled bs vs → us ≡ vs
+text-spells-one-list bs us vs a b = values.unique bs us vs a b
+
+module _ (longest : ℕ) where
   -- every RIB record with a table before it, its entries naming peers of the latest: `Splits`, record by record `Valid`
   pub accepted-exactly : (d : List ℕ) → Octets d → (walked longest d .fault ≡ 0) ↔ Splits (layout longest) d
   accepted-exactly d o = dumps.accepts-dump longest d o
@@ -173,6 +200,18 @@ module _ (longest : ℕ) where
   -- each field shown is the one in the bytes: header, time, kind and every field of the record that the octets start with
   pub fields-are-those-of-the-record : (t : Table) (st : St) → Tells t st → (s : List ℕ) → Octets s → (r : Rec) (q : List ℕ) → readRec (layout longest) st 0 s ≡ good r q → Same longest s r (readOne longest t s)
   fields-are-those-of-the-record t st told s o r q e = items.read-same longest t st told s o r q e (readOne longest t s) refl
+
+  -- a view name that is shown is text;
+  pub shown-name-is-text : (t : Table) (s : List ℕ) → Octets s → (h : Header) (p : Peers) → readOne longest t s ≡ Good h (PeerTable p) → Text (within s (p .name))
+  shown-name-is-text t s o h p e = names.shown-name-is-text longest t s o h p e
+
+  -- 17 says that a whole name is there that is not, and nothing else;
+  pub seventeen-exactly : (t : Table) (s : List ℕ) → Octets s → (fault (readOne longest t s) ≡ 17) ↔ (Named s × (Text (nameIn s) → ⊥))
+  seventeen-exactly t s o = names.seventeen-exactly longest t s o
+
+  -- and a name that its message cuts short is 5, whatever is there of it
+  pub short-name-is-five : (t : Table) (s : List ℕ) → Octets s → WholeTable s → numAt s 8 4 < 6 + numAt s 16 2 → fault (readOne longest t s) ≡ 5
+  short-name-is-five t s o w h = names.short-name-is-five longest t s o w h
 
   -- writing what was read restores the bytes
   module _ (t : Table) (st : St) (told : Tells t st) (s : List ℕ) (o : Octets s) (some : 0 < length s) (good : fault (readOne longest t s) ≡ 0) where
