@@ -25,8 +25,9 @@ use Rattle.page_spec.specs.Layout.{kind12, kind13, kind16, kind, stamped, layou
 use Rattle.page_spec.specs.declared.Kind.{Kind}
 use Rattle.page_spec.specs.declared.Kind.the-variants.{Refused, Unread, TableDump, PeerTable, Rib, RibGeneric, Change, Message}
 use Rattle.page_laws.proofs.Choice.{Says, by-test, kind-says}
+use Rattle.record_spec.specs.Named.{Named, nameIn}
 use Rattle.record_laws.proofs.One.{rec-header, short-header}
-use Rattle.record_laws.proofs.Head.{by-name, nameOf, Named, nameIn, messageIn, held-in-record, name-in-message}
+use Rattle.record_laws.proofs.Head.{by-name, nameOf, messageIn, held-in-record, name-in-message}
 
 -- ---- formats whose own checks give no other numbers than those up to 13
 

@@ -15,6 +15,7 @@ use Rattle.octets_spec.specs.Be.{numAt}
 use Rattle.text_spec.specs.Check.{isText}
 use Rattle.page_spec.specs.Names.{collector, viewLength, viewName}
 use Rattle.page_spec.specs.Peers.{tableHead}
+use Rattle.record_spec.specs.Named.{nameIn}
 use Rattle.record_laws.proofs.One.{part-first}
 
 -- ---- in a message
@@ -60,21 +61,7 @@ by-name Z at bs short wrong right =
 
 -- ---- in a record
 
--- a whole record of Type 13, Subtype 1, starts the octets
-pub record WholeTable (s : List ℕ) : Type 0 where
-  pub type : numAt s 4 2 ≡ 13
-  pub sub : numAt s 6 2 ≡ 1
-  pub whole : 12 + numAt s 8 4 ≤ length s
-
--- and its message holds all of the view name, as long as that is told to be
-pub record Named (s : List ℕ) : Type 0 where
-  pub table : WholeTable s
-  pub held : 6 + numAt s 16 2 ≤ numAt s 8 4
-
--- that name, and the message
-abbrev pub nameIn : List ℕ → List ℕ
-nameIn s = take (numAt s 16 2) (drop 18 s)
-
+-- its message
 abbrev pub messageIn : List ℕ → List ℕ
 messageIn s = take (numAt s 8 4) (drop 12 s)
 

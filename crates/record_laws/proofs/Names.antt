@@ -29,12 +29,13 @@ use Rattle.record_spec.specs.Table.{stateOf}
 use Rattle.record_spec.specs.One.{readOne}
 use Rattle.record_spec.specs.Agrees.{Agrees}
 use Rattle.record_spec.specs.Answer.{fault, within}
+use Rattle.record_spec.specs.Named.{WholeTable, Named, nameIn}
 use Rattle.record_laws.proofs.One.{rec-header, one-record}
 use Rattle.record_laws.proofs.KindBy.{kind-by}
 use Rattle.record_laws.proofs.Accepts.{no-octets, tells-table}
 use Rattle.record_laws.proofs.Items.{right, read-same}
 use Rattle.record_laws.proofs.Numbers.{answers}
-use Rattle.record_laws.proofs.Head.{by-name, WholeTable, Named, nameIn, messageIn, held-in-message, held-in-record, name-in-message}
+use Rattle.record_laws.proofs.Head.{by-name, messageIn, held-in-message, held-in-record, name-in-message}
 use Rattle.record_laws.proofs.Faults.{found-record}
 
 -- where something is shown or refused, there are octets

@@ -7,3 +7,4 @@ pub mod Fields
 pub mod Table
 pub mod Reads
 pub mod Items
+pub mod Named

@@ -22,7 +22,7 @@
 --   unjudgedAt     dagsumilat_spec/specs/Unjudged  what the call for an entry shows
 --   Fair           record_laws/proofs/Written  fields of the form that a writer takes
 --   numberAt       record_spec/specs/Reads   the number that reading gives the record that starts the octets
---   WholeTable     record_laws/proofs/Head   a whole record of Type 13, Subtype 1, starts the octets; with `Named`: its message holds all of the
+--   WholeTable     record_spec/specs/Named   a whole record of Type 13, Subtype 1, starts the octets; with `Named`: its message holds all of the
 --                                            view name, which is `nameIn`
 --   Own, Placed    write_spec/specs/Only, form_spec/specs/Aligned  whose a record is; each number goes into its field, each part has its size
 --   numberFor      room_spec/specs/Room      the fault, then 15
@@ -83,7 +83,7 @@ use Rattle.record_spec.specs.Tells.{Tells}
 use Rattle.record_spec.specs.Agrees.{Agrees, Same, writerOf}
 use Rattle.record_spec.specs.Again.{again}
 use Rattle.record_laws.proofs.Written.{Fair}
-use Rattle.record_laws.proofs.Head.{WholeTable, Named, nameIn}
+use Rattle.record_spec.specs.Named.{WholeTable, Named, nameIn}
 use Rattle.walk_spec.specs.Walked.{walked}
 use Rattle.walk_spec.specs.Steps.{stepAt}
 use Rattle.walk_spec.specs.Answer.{Steps}
