@@ -7,7 +7,7 @@ use Rattle.text.proofs.one_more.Statement.{statement}
 use Rattle.text.proofs.one_more.Tie as tie
 
 returns : tie.Need-returns
-returns c = not-there _ _ _ _ (c .if1 .taken)
+returns c = not-there _ _ _ _ (omega arith)
 
 shared-slice-read-x : tie.Need-shared-slice-read-x
 shared-slice-read-x c = search needs
