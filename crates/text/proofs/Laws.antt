@@ -1,19 +1,20 @@
 -- Text, an octet and a sequence at a time.
-use mathlib.Core.Path.{_≡_, refl, sym, ap, _∙_}
+use mathlib.Core.Path.{_≡_, sym, _∙_}
 use mathlib.Core.Bool.{Bool, true, false, cond, false≢true}
 use mathlib.Core.List.{List, [], _∷_}
 use mathlib.Core.Logic.{inl}
-use Prim.Native.Nat.{ℕ, zero, suc, _+_, _-_, _≤_, _<_}
+use Prim.Native.Nat.{ℕ, suc, _+_, _≤_, _<_}
 use native.Mathlib.Omega.{arith}
 use borrow.Author.Tests.{le-leb, lt-leb}
 use lib.Dec.{eqb, leb}
 use lib.ListN.{length, drop, getD, drop-of-length-le}
 use lib.Seq.{drop-cons}
 use Rattle.form_spec.specs.Words.{choose, inRange}
-use Rattle.octets_laws.proofs.Rules.{inside, below, above}
+use Rattle.octets_laws.proofs.Rules.{below}
 use Rattle.text_spec.specs.Check.{ones, least, most, startOf, started, goesOn, isText}
 use Rattle.text_spec.specs.declared.Start.{Start}
 use Rattle.text_spec.specs.declared.Start.the-variants.{Then, Bad}
+use Rattle.text_laws.proofs.Behind.{idle}
 use Rattle.text_laws.proofs.Sequence.{form-over}
 use Rattle.text.specs.Over.{Over, Ends}
 
@@ -106,12 +107,6 @@ module _ (m : List ℕ) (at low high : ℕ) where
       record { yes = λ e. absurd (false≢true e); no = λ e k. rw (a k) (f .no t (n + k)) }
 
 -- ---- a sequence
-
--- where no octet is to come, the range says nothing
-idle : (bs : List ℕ) (low high : ℕ) → goesOn bs 0 low high ≡ isText bs
-unfolding goesOn
-idle [] low high = refl
-idle (x ∷ rest) low high = refl
 
 module _ (m : List ℕ) (at : ℕ) (r : Start) (there : at < length m) (told : r ≡ startOf (getD m at 0)) where
   starts : isText (drop at m) ≡ started (goesOn (drop (at + 1) m)) r

@@ -15,7 +15,7 @@ behind zero r = []
 behind (suc n) r = r ∷ behind n tails
 
 -- where none is to come, the range says nothing
-idle : (bs : List ℕ) (low high : ℕ) → goesOn bs 0 low high ≡ isText bs
+pub idle : (bs : List ℕ) (low high : ℕ) → goesOn bs 0 low high ≡ isText bs
 unfolding goesOn
 idle [] low high = refl
 idle (x ∷ rest) low high = refl

@@ -1,6 +1,6 @@
 -- Text as a grammar of octets (RFC 3629, section 4): a row for each form of a sequence, a range for each of its octets.
 use mathlib.Core.Path.{_≡_}
-use mathlib.Core.List.{List, [], _∷_, _++_}
+use mathlib.Core.List.{List, [], _∷_}
 use mathlib.Core.Logic.{_⊎_}
 use Prim.Native.Nat.{ℕ, _≤_}
 use Rattle.form_spec.specs.Fmt.{join}

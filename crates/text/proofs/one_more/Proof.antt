@@ -1,5 +1,4 @@
 -- `text::one_more` meets its contract.
-use denote.Ref.{now}
 use native.Mathlib.Omega.{arith}
 use Rattle.text.proofs.Laws.{not-there, too-low, up-to}
 use borrow.Author.Needs.{needs}
