@@ -87,7 +87,7 @@ pub fn peers_at(m: &[u8], from: usize, count: u64, s: Shown) -> Shown
 }
 
 // The count at `at`, so many peers, and nothing behind them.
-fn counted_at(m: &[u8], at: usize, h: Header, collector: u64, name: Part) -> Shown
+fn counted_peers(m: &[u8], at: usize, h: Header, collector: u64, name: Part) -> Shown
     ensures { λ r. ⌜ r ≡ whole (λ fs. Good h (PeerTable (peersOf collector name (now (m .entry)) fs))) Refused peerList (now (m .entry)) at ⌝ }
 {
     let Num::Value(count, a) = field(m, at, 2) else {
@@ -120,7 +120,7 @@ pub fn peer_table(m: &[u8], at: usize, h: Header) -> Shown
         return Shown::Refused(5, b);
     };
     if is_text(part(m, b, size)) {
-        return counted_at(m, d, h, collector, Part { at: b, size });
+        return counted_peers(m, d, h, collector, Part { at: b, size });
     }
     Shown::Refused(17, b)
 }

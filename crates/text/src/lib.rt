@@ -57,7 +57,7 @@ fn start_of(x: u8) -> Start
     }
 }
 
-// The octet at `at`, where it belongs to a sequence and lies from `low` to `high`.
+// Whether an octet more belongs to the sequence: it is there, and lies from `low` to `high`.
 fn one_more(m: &[u8], at: usize, low: u8, high: u8) -> bool
     ensures { λ r. ⌜ Over (now (m .entry)) at 1 low high r ⌝ }
 {
@@ -71,7 +71,7 @@ fn one_more(m: &[u8], at: usize, low: u8, high: u8) -> bool
     x <= high
 }
 
-// That one and another.
+// Two more, the first of them from `low` to `high`.
 fn two_more(m: &[u8], at: usize, low: u8, high: u8) -> bool
     ensures { λ r. ⌜ Over (now (m .entry)) at 2 low high r ⌝ }
 {
@@ -81,7 +81,7 @@ fn two_more(m: &[u8], at: usize, low: u8, high: u8) -> bool
     false
 }
 
-// And a third.
+// Three more.
 fn three_more(m: &[u8], at: usize, low: u8, high: u8) -> bool
     ensures { λ r. ⌜ Over (now (m .entry)) at 3 low high r ⌝ }
 {
@@ -91,7 +91,7 @@ fn three_more(m: &[u8], at: usize, low: u8, high: u8) -> bool
     false
 }
 
-// Each number of octets apart: a loop's end would be mispredicted where neighbours differ in length.
+// So many more. Each number by itself: a loop's end would be mispredicted where neighbours differ in length.
 fn go_on(m: &[u8], at: usize, more: u8, low: u8, high: u8) -> bool
     requires { ⌜ (0 < more) × (more ≤ 3) ⌝ }
     ensures { λ r. ⌜ Over (now (m .entry)) at more low high r ⌝ }

@@ -50,8 +50,8 @@ part-requires c κs = search needs
 is-text-requires : tie.Need-is-text-requires
 is-text-requires c κs = search needs
 
-counted-at-requires : tie.Need-counted-at-requires
-counted-at-requires c κs = search needs
+counted-peers-requires : tie.Need-counted-peers-requires
+counted-peers-requires c κs = search needs
 
 returns-4 : tie.Need-returns-4
 unfolding peerTable
@@ -79,6 +79,6 @@ peer-table-spec =
     returns-3
     part-requires
     is-text-requires
-    counted-at-requires
+    counted-peers-requires
     returns-4
     returns-5)

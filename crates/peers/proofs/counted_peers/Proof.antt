@@ -3,8 +3,8 @@ use Rattle.form_spec.specs.Pass.{pass}
 use Rattle.page_spec.specs.Peers.{peerList}
 use Rattle.octets_laws.proofs.Rules.{flow}
 use borrow.Author.Needs.{needs}
-use Rattle.peers.proofs.counted_at.Statement.{statement}
-use Rattle.peers.proofs.counted_at.Tie as tie
+use Rattle.peers.proofs.counted_peers.Statement.{statement}
+use Rattle.peers.proofs.counted_peers.Tie as tie
 
 field-requires : tie.Need-field-requires
 field-requires c κs = search needs
@@ -29,8 +29,8 @@ returns-2 : tie.Need-returns-2
 unfolding peerList pass
 returns-2 c = let h = rw (c .before .left .ensures) at (c .peers-at .ensures) in search flow depth 12
 
-pub counted-at-spec : {M : Type 1} → statement M
-counted-at-spec =
+pub counted-peers-spec : {M : Type 1} → statement M
+counted-peers-spec =
     tie.close
     (tie.spec
     field-requires
