@@ -1,14 +1,15 @@
 -- Reading decimal text: a number's text is read back, and no other text is read as that number.
 use mathlib.Core.Path.{_≡_, refl, sym, ap, _∙_}
-use mathlib.Core.Bool.{Bool, true, false, cond}
+use mathlib.Core.Bool.{Bool, true, false}
 use mathlib.Core.List.{List, [], _∷_, _++_, append-nil}
 use Prim.Native.Nat.{ℕ, _+_, _-_, _*_, _/_, _%_, _≤_, _<_}
 use native.Mathlib.Omega.{arith}
 use lib.Dec.{ltb, leb}
 use lib.ListN.{length, drop}
 use lib.Seq.{append-snoc}
-use borrow.Author.Tests.{lt-ltb, le-leb, lt-leb, ltb-true, ltb-false, leb-true}
-use Rattle.form_spec.specs.Words.{choose, inRange}
+use borrow.Author.Tests.{lt-ltb, le-leb, ltb-true, ltb-false, leb-true}
+use Rattle.form_spec.specs.Words.{choose}
+use Rattle.form_laws.proofs.Range.{inside, below, above, bounds}
 use Rattle.decimal_spec.specs.Decimal.{digit, decimal, Digits}
 use Rattle.decimal_spec.specs.Reading.{isDigit, run, valueFrom, value, canonical, valued, decimalAt}
 use Rattle.decimal_spec.specs.declared.Number.the-variants.{Value, Bad}
@@ -17,25 +18,13 @@ use Rattle.decimal_laws.proofs.Decimal.{decimal-small, decimal-step, by
 -- ---- digits
 
 pub is-digit : (x : ℕ) → 48 ≤ x → x ≤ 57 → isDigit x ≡ true
-unfolding inRange
-is-digit x p q = rw (le-leb 48 x p, le-leb x 57 q)
+is-digit x p q = inside 48 x 57 p q
 
 pub no-digit-below : (x : ℕ) → x < 48 → isDigit x ≡ false
-unfolding inRange
-no-digit-below x p = rw (lt-leb 48 x p)
+no-digit-below x p = below 48 x 57 p
 
 pub no-digit-above : (x : ℕ) → 57 < x → isDigit x ≡ false
-unfolding inRange
-no-digit-above x p = rw (lt-leb x 57 p, le-leb 48 x (omega arith))
-
-digit-bounds : (x : ℕ) → isDigit x ≡ true → (48 ≤ x) × (x ≤ 57)
-unfolding inRange
-digit-bounds x e = go (leb 48 x) refl (leb x 57) refl e
-  where
-    go : (a : Bool) → leb 48 x ≡ a → (b : Bool) → leb x 57 ≡ b → cond a b false ≡ true → (48 ≤ x) × (x ≤ 57)
-    go true p true q h = (leb-true 48 x p, leb-true x 57 q)
-    go true p false q h = let z : _≡_ {A = ℕ} 0 1 = cc in absurd (omega arith)
-    go false p b q h = let z : _≡_ {A = ℕ} 0 1 = cc in absurd (omega arith)
+no-digit-above x p = above 48 x 57 p
 
 -- a number's text is all digits
 digits-both : (xs ys : List ℕ) → Digits xs → Digits ys → Digits (xs ++ ys)
@@ -70,7 +59,7 @@ run-front (x ∷ xs) = go (isDigit x) refl (run-front xs)
   where
     go : (b : Bool) → isDigit x ≡ b → Fronted xs → Fronted (x ∷ xs)
     go true e s =
-        let d = digit-bounds x e in
+        let d = bounds 48 x 57 e in
         record {
           rest = s .rest;
           digits = rw e (d .0, d .1, s .digits);

@@ -15,3 +15,4 @@ pub mod Moved
 pub mod Refuses
 pub mod Aligned
 pub mod Found
+pub mod Range

@@ -1,12 +1,12 @@
 -- Where the fields of a good record lie, kind by kind.
 use mathlib.Core.Path.{_≡_, refl, sym}
-use mathlib.Core.Bool.{Bool, true, false, cond, false≢true}
+use mathlib.Core.Bool.{Bool, true, false, cond}
 use mathlib.Core.List.{List, []}
 use Prim.Native.Nat.{ℕ, zero, suc, _+_, _*_, _-_, _/_, _≤_}
 use native.Mathlib.Omega.{arith}
 use lib.Dec.{ltb, leb, eqb}
 use lib.ListN.{length, take, drop}
-use borrow.Author.Tests.{ltb-false, leb-true, ne-eqb}
+use borrow.Author.Tests.{ltb-false, ne-eqb}
 use Rattle.form_spec.specs.Octets.{be}
 use Rattle.form_spec.specs.Fmt.{Fmt, end, test, field}
 use Rattle.form_spec.specs.Words.{choose, num, skip, checked, tested, fail, inRange}
@@ -14,6 +14,7 @@ use Rattle.form_spec.specs.Pass.{Seen, note, numberOf, afterOf, pass, whole}
 use Rattle.octets_spec.specs.Be.{numAt}
 use Rattle.octets_spec.specs.Field.{fieldAt}
 use Rattle.octets_spec.specs.declared.Num.the-variants.{Value, Short}
+use Rattle.form_laws.proofs.Range.{bounds}
 use Rattle.page_spec.specs.Names.{peerAs, localAs, interface, oldState, newState, entryCount, peerCount, view, sequence, prefixOctets, prefixBits, status, originated, peerAddress, localAddress, collector, viewLength, viewName, family, safi}
 use Rattle.page_spec.specs.Bgp4mp.{addresses, session, state, stateChange}
 use Rattle.page_spec.specs.TableDump.{tableDump, tableDumpRest}
@@ -40,14 +41,6 @@ Sees P x = fault x ≡ 0 → P x
 -- a state, 1 to 6
 abbrev pub IsState : ℕ → Type 0
 IsState s = (1 ≤ s) × (s ≤ 6)
-
-in-range : (lo v hi : ℕ) → inRange lo v hi ≡ true → (lo ≤ v) × (v ≤ hi)
-unfolding inRange
-in-range lo v hi = go (leb lo v) refl
-  where
-    go : (t : Bool) → leb lo v ≡ t → cond t (leb v hi) false ≡ true → (lo ≤ v) × (v ≤ hi)
-    go true e f = (leb-true lo v e, leb-true v hi f)
-    go false e f = absurd (false≢true f)
 
 -- ---- the fields of a format, up to those that matter
 
@@ -120,7 +113,7 @@ module _ (m : List ℕ) (P : Shown → Type 0) where
 
   state-then : (to : List Seen → Shown) (x : ℕ) (f : Fmt) (i : ℕ) → (i + 2 ≤ length m → IsState (numAt m i 2) → Sees P (whole (λ fs. to (note x i 2 (i + 2) (numAt m i 2) fs)) Refused f m (i + 2))) → Sees P (whole to Refused (state x f) m i)
   unfolding state checked numAt
-  state-then to x f i h = over to x 2 0 _ i λ x1. judged _ (inRange 1 (numAt m i 2) 6) 8 2 f (i + 2) λ e. h x1 (in-range 1 (numAt m i 2) 6 e)
+  state-then to x f i h = over to x 2 0 _ i λ x1. judged _ (inRange 1 (numAt m i 2) 6) 8 2 f (i + 2) λ e. h x1 (bounds 1 (numAt m i 2) 6 e)
 
   -- the last four octets of a state change are its states
   change-seen : (to : List Seen → Shown) (w i : ℕ)

@@ -1,16 +1,17 @@
 -- The rules by which `search flow` follows code through a page's format: one for each way out of a field and of a test.
 use mathlib.Core.Path.{_≡_, refl, sym, ap, _∙_}
 use mathlib.Core.List.{List, []}
-use mathlib.Core.Bool.{Bool, true, false, cond}
+use mathlib.Core.Bool.{Bool, true, false}
 use Prim.Native.Nat.{ℕ, zero, suc, _+_, _-_, _<_, _≤_}
 use native.Mathlib.Omega.{arith}
 use borrow.Author.Tests.{lt-ltb, le-ltb, le-leb, lt-leb, eq-eqb, ne-eqb, ltb-true, ltb-false}
-use lib.Dec.{ltb, leb}
+use lib.Dec.{ltb}
 use lib.ListN.{length, take, drop}
 use Rattle.form_spec.specs.Octets.{be}
 use Rattle.form_spec.specs.Fmt.{Fmt, end, test, field}
-use Rattle.form_spec.specs.Words.{choose, num, skip, part, must, fail, checked, tested, inRange, area}
+use Rattle.form_spec.specs.Words.{choose, num, skip, part, must, fail, checked, tested, area}
 use Rattle.form_spec.specs.Pass.{Seen, note, pass}
+pub use Rattle.form_laws.proofs.Range.{inside, below, above}
 use Rattle.octets_spec.specs.Be.{numAt}
 use Rattle.octets_spec.specs.Field.{fieldAt, roomAt}
 use Rattle.octets_spec.specs.declared.Num.{Num}
@@ -232,23 +233,6 @@ picks b x y z h e = e ∙ rw h
 pub passes : {A : Type 0} (b : Bool) (x y z : A) → b ≡ false → x ≡ z → x ≡ choose b y z
 unfolding choose
 passes b x y z h e = e ∙ rw h
-
--- tests
-pub inside : (lo v hi : ℕ) → lo ≤ v → v ≤ hi → inRange lo v hi ≡ true
-unfolding inRange
-inside lo v hi p q = rw (le-leb lo v p, le-leb v hi q)
-
-pub below : (lo v hi : ℕ) → v < lo → inRange lo v hi ≡ false
-unfolding inRange
-below lo v hi p = rw (lt-leb lo v p)
-
-after : (b : Bool) → cond b false false ≡ false
-after true = refl
-after false = refl
-
-pub above : (lo v hi : ℕ) → hi < v → inRange lo v hi ≡ false
-unfolding inRange
-above lo v hi p = rw (lt-leb v hi p) (after (leb lo v))
 
 -- for a layout with faults placed before the field that was read last
 pub ruleset late = (must-yes, late-no, area-short, area-there, late-end)

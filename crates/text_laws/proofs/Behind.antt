@@ -7,7 +7,7 @@ use native.Mathlib.Omega.{arith}
 use Rattle.form_spec.specs.Words.{inRange}
 use Rattle.text_spec.specs.Grammar.{Range, tails, Row}
 use Rattle.text_spec.specs.Check.{goesOn, isText}
-use Rattle.text_laws.proofs.Range.{inside, bounds}
+use Rattle.form_laws.proofs.Range.{inside, bounds}
 
 -- the ranges of so many octets: the next one's, and those of the rest
 abbrev pub behind : ℕ → Range → List Range

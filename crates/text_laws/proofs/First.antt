@@ -14,7 +14,7 @@ use Rattle.text_spec.specs.declared.Start.{Start}
 use Rattle.text_spec.specs.declared.Start.the-variants.{Then, Bad}
 use Rattle.text_spec.specs.Grammar.{Range, to, tails, forms, Row, OneOf}
 use Rattle.text_spec.specs.Check.{least, most, startOf}
-use Rattle.text_laws.proofs.Range.{bounds, upTo}
+use Rattle.form_laws.proofs.Range.{bounds, upTo}
 use Rattle.text_laws.proofs.Behind.{behind}
 use Rattle.text_laws.proofs.Finite.{both, left, right, below, at}
 

@@ -1,4 +1,3 @@
-pub mod Range
 pub mod Behind
 pub mod Finite
 pub mod First

@@ -8,7 +8,7 @@ use lib.Dec.{leb}
 use borrow.Author.Tests.{le-leb, lt-leb}
 use Rattle.form_spec.specs.Words.{_$_}
 use Rattle.text_spec.specs.Text.{tail, spell, spells, Spelled}
-use Rattle.text_laws.proofs.Range.{upTo}
+use Rattle.form_laws.proofs.Range.{upTo}
 use Rattle.text_laws.proofs.Sizes.{spell-1, spell-2, spell-3, spell-4}
 use Rattle.text_laws.proofs.Values.{more}
 

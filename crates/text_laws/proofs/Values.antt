@@ -7,7 +7,7 @@ use native.Mathlib.Omega.{arith}
 use Rattle.form_spec.specs.Words.{_$_}
 use Rattle.text_spec.specs.Text.{Scalar, tail, spell}
 use Rattle.text_spec.specs.Grammar.{Range, forms, Row, OneOf}
-use Rattle.text_laws.proofs.Range.{upTo}
+use Rattle.form_laws.proofs.Range.{upTo}
 use Rattle.text_laws.proofs.Sizes.{spell-1, spell-2, spell-3, spell-4}
 
 -- ---- what holds of every form
