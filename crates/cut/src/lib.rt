@@ -11,6 +11,7 @@ ghost use Rattle.page_spec.specs.Bgp4mp.{longestMessage};
 ghost use Rattle.page_spec.specs.Layout.{layout};
 ghost use Rattle.cut_spec.specs.Laid.{laid};
 ghost use Rattle.cut_spec.specs.Answer.{leftOf, Cuts};
+ghost use Rattle.mutes_spec.specs.Slots.{Filled};
 ghost use Rattle.room_spec.specs.Room.{written, holds};
 ghost use Rattle.look_spec.specs.Sort.{sortOf, isTable};
 ghost use Rattle.cut.specs.State.{stateTold, shownAt, recAt};
@@ -27,6 +28,8 @@ use look::is_peer_table;
 use look::peer_count_at;
 use look::subtype_of;
 use look::type_of;
+use mutes::fill;
+use mutes_spec::Slots;
 use page_spec::LONGEST_MESSAGE;
 use room_spec::Written;
 use walk::walk_with;
@@ -46,19 +49,20 @@ fn table_behind(
     table: bool,
     f: InForce,
     mutes: &[u32],
+    slots: &Slots,
     new_indexes: &mut [u16; 65536],
     longest: u64,
 ) -> InForce
     requires { ⌜ Stands longest (now mutes) (now «new_indexes») (now d) at f ⌝ }
     requires { ⌜ table ≡ isTable (sortOf (shownAt longest (now d) f at)) ⌝ }
-    requires { ⌜ length (now «new_indexes») ≡ 65536 ⌝ }
+    requires { ⌜ (length (now «new_indexes») ≡ 65536) × Filled (now mutes) (now slots) ⌝ }
     ensures { λ r. ⌜ (stateTold (now (d .entry)) r ≡ next (layout longest) (recAt longest (now (d .entry)) f at) (stateTold (now (d .entry)) f)) × InStep (now (mutes .entry)) (now («new_indexes» .exit)) (now (d .entry)) r × (length (now («new_indexes» .exit)) ≡ 65536) ⌝ }
 {
     if table {
         let counted = peer_count_at(d, at);
         let from = counted + 2;
         let peers = count(d, counted);
-        let kept = fill_new_indexes(d, from, peers, mutes, new_indexes);
+        let kept = fill_new_indexes(d, from, peers, mutes, slots, new_indexes);
         return InForce {
             seen: true,
             from,
@@ -74,13 +78,14 @@ fn leave(
     d: &[u8],
     w: Window,
     mutes: &[u32],
+    slots: &Slots,
     new_indexes: &mut [u16; 65536],
     out: &mut [u8],
     lays: bool,
     longest: u64,
 ) -> usize
     requires { ⌜ Splits (layout longest) (now d) ⌝ }
-    requires { ⌜ length (now «new_indexes») ≡ 65536 ⌝ }
+    requires { ⌜ (length (now «new_indexes») ≡ 65536) × Filled (now mutes) (now slots) ⌝ }
     requires { ⌜ (lays ≡ true → length (leftOf longest (w .start) (w .end) (now mutes) (now d)) ≤ length (now out)) ⌝ }
     ensures { λ r. ⌜ (r ≡ length (leftOf longest (w .start) (w .end) (now (mutes .entry)) (now (d .entry)))) × (now (out .exit) ≡ laid lays (now (out .entry)) 0 (leftOf longest (w .start) (w .end) (now (mutes .entry)) (now (d .entry)))) × (length (now («new_indexes» .exit)) ≡ 65536) ⌝ }
 {
@@ -101,13 +106,14 @@ fn leave(
             is_peer_table(ty, subtype),
             f,
             mutes,
+            slots,
             new_indexes,
             longest,
         );
         let next = end_at(d, at);
         let lost = f.lost;
         let peers = f.count;
-        let x = fate_of(d, at, ty, subtype, w, mutes, lost);
+        let x = fate_of(d, at, ty, subtype, w, mutes, slots, lost);
         s = pass(d, at, next, x, peers, new_indexes, s, out, lays);
         at = next;
     }
@@ -121,16 +127,17 @@ fn fits(
     dump: &[u8],
     w: Window,
     mutes: &[u32],
+    slots: &Slots,
     new_indexes: &mut [u16; 65536],
     out: &mut [u8],
     longest: u64,
 ) -> bool
     requires { ⌜ Splits (layout longest) (now dump) ⌝ }
-    requires { ⌜ length (now «new_indexes») ≡ 65536 ⌝ }
+    requires { ⌜ (length (now «new_indexes») ≡ 65536) × Filled (now mutes) (now slots) ⌝ }
     ensures { λ r. ⌜ (r ≡ leb (length (leftOf longest (w .start) (w .end) (now (mutes .entry)) (now (dump .entry)))) (length (now (out .entry)))) × (now (out .exit) ≡ now (out .entry)) × (length (now («new_indexes» .exit)) ≡ 65536) ⌝ }
 {
     if out.len() < dump.len() {
-        return leave(dump, w, mutes, new_indexes, out, false, longest) <= out.len();
+        return leave(dump, w, mutes, slots, new_indexes, out, false, longest) <= out.len();
     }
     true
 }
@@ -140,9 +147,11 @@ fn left_of(dump: &[u8], w: Window, mutes: &[u32], out: &mut [u8], longest: u64) 
     requires { ⌜ Splits (layout longest) (now dump) ⌝ }
     ensures { λ r. ⌜ (r ≡ written 0 0 (leftOf longest (w .start) (w .end) (now (mutes .entry)) (now (dump .entry))) (now (out .entry))) × (now (out .exit) ≡ holds 0 (leftOf longest (w .start) (w .end) (now (mutes .entry)) (now (dump .entry))) (now (out .entry))) ⌝ }
 {
+    let mut slots = [0u16; 196608];
+    fill(mutes, &mut slots);
     let mut new_indexes = [0u16; 65536];
-    if fits(dump, w, mutes, &mut new_indexes, out, longest) {
-        return Written::Octets(leave(dump, w, mutes, &mut new_indexes, out, true, longest));
+    if fits(dump, w, mutes, &slots, &mut new_indexes, out, longest) {
+        return Written::Octets(leave(dump, w, mutes, &slots, &mut new_indexes, out, true, longest));
     }
     Written::Refused(15, 0)
 }

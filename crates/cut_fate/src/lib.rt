@@ -8,7 +8,7 @@ ghost use Rattle.look_spec.specs.Field.{typeOf, subtypeOf, timeOf, itemsAt, cou
 ghost use Rattle.cut_spec.specs.Cut.{mem};
 ghost use Rattle.cut_spec.specs.Fate.{fateOf};
 ghost use Rattle.cut_spec.specs.declared.Fate.the-variants as fated;
-use cut_items::listed;
+ghost use Rattle.mutes_spec.specs.Slots.{Filled};
 use cut_spec::Fate;
 use look::count;
 use look::entry_count_at;
@@ -18,6 +18,8 @@ use look::peer_count_at;
 use look::route_peer;
 use look::seconds;
 use look::session_peer;
+use mutes::listed;
+use mutes_spec::Slots;
 
 // Times from start up to but not including end.
 pub struct Window {
@@ -47,11 +49,12 @@ fn timed(time: u64, w: Window) -> Fate
 }
 
 // A record that its time and its peer AS decide.
-fn heard(time: u64, peer: u64, w: Window, mutes: &[u32]) -> Fate
+fn heard(time: u64, peer: u64, w: Window, mutes: &[u32], slots: &Slots) -> Fate
+    requires { ⌜ Filled (now mutes) (now slots) ⌝ }
     ensures { λ r. ⌜ r ≡ cond ((leb (w .start) time && ltb time (w .end)) && not (mem peer (now (mutes .entry)))) fated.Stays fated.Goes ⌝ }
 {
     if inside(time, w) {
-        if listed(peer, mutes) {
+        if listed(peer, mutes, slots) {
             return Fate::Goes;
         }
         return Fate::Stays;
@@ -94,15 +97,29 @@ pub fn fate_of(
     subtype: u64,
     w: Window,
     mutes: &[u32],
+    slots: &Slots,
     lost: bool,
 ) -> Fate
     requires { ⌜ Is (now d) at (λ x. (typeOf x ≡ ty) × (subtypeOf x ≡ subtype)) ⌝ }
+    requires { ⌜ Filled (now mutes) (now slots) ⌝ }
     ensures { λ r. ⌜ Shows (now (d .entry)) at (λ x. r ≡ fateOf (w .start) (w .end) (now (mutes .entry)) lost x) ⌝ }
 {
     match ty {
-        16 => heard(seconds(d, at), session_peer(d, at, subtype), w, mutes),
-        17 => heard(micros(d, at), late_session_peer(d, at, subtype), w, mutes),
-        12 => heard(seconds(d, at), route_peer(d, at, subtype), w, mutes),
+        16 => heard(
+            seconds(d, at),
+            session_peer(d, at, subtype),
+            w,
+            mutes,
+            slots,
+        ),
+        17 => heard(
+            micros(d, at),
+            late_session_peer(d, at, subtype),
+            w,
+            mutes,
+            slots,
+        ),
+        12 => heard(seconds(d, at), route_peer(d, at, subtype), w, mutes, slots),
         13 => {
             if subtype == 1 {
                 return table_fate(d, at, lost);

@@ -1,37 +1,21 @@
--- Laws of the list of the muted, and of one entry and one peer as they are laid.
+-- Laws of one entry and one peer as they are laid.
 use mathlib.Core.Path.{_≡_, refl, sym, ap, _∙_}
 use mathlib.Core.Bool.{Bool, true, false, cond}
 use mathlib.Core.List.{List, [], _∷_, _++_}
-use Prim.Native.Nat.{ℕ, _+_, _-_, _≤_, _<_}
+use Prim.Native.Nat.{ℕ, _+_, _-_, _≤_}
 use native.Mathlib.Omega.{arith}
-use native.Mathlib.Numerals.{add-one}
-use lib.ListN.{length, take, drop, getD, drop-of-length-le}
-use lib.Seq.{drop-cons}
-use borrow.Author.Tests.{eq-eqb, ne-eqb}
+use lib.ListN.{length, take, drop}
 use Rattle.form_spec.specs.Octets.{toBe, Octets}
 use Rattle.form_spec.specs.Fmt.{Fits, join}
 use Rattle.form_spec.specs.Found.{Lies, item}
 use Rattle.form_spec.specs.Words.{checked}
 use Rattle.form_laws.proofs.Found.{fits-of, item-octets}
 use Rattle.form_laws.proofs.Octets.{octets-drop, length-toBe}
-use Rattle.cut_spec.specs.Cut.{mem, renumber}
+use Rattle.cut_spec.specs.Cut.{renumber}
 use Rattle.page_spec.specs.Rib.{entry}
 use Rattle.page_spec.specs.Peers.{peer}
 use Rattle.octets_spec.specs.Over.{over}
 use Rattle.cut_laws.proofs.Laid.{over-within}
-
--- ---- the list of the muted
-
-pub mem-yes : (n : ℕ) (ms : List ℕ) (i : ℕ) → i < length ms → n ≡ getD ms i 0 → mem n (drop i ms) ≡ true
-mem-yes n ms i h e = rw (drop-cons ms i 0 h, eq-eqb _ _ e)
-
-pub mem-no : (n : ℕ) (ms : List ℕ) (i : ℕ) → i < length ms → (n ≡ getD ms i 0 → ⊥) → mem n (drop (i + 1) ms) ≡ mem n (drop i ms)
-mem-no n ms i h e = rw (add-one, drop-cons ms i 0 h, ne-eqb _ _ e)
-
-pub mem-end : (n : ℕ) (ms : List ℕ) (i : ℕ) → length ms ≤ i → mem n (drop i ms) ≡ false
-mem-end n ms i h = rw (drop-of-length-le ms h)
-
--- ---- an entry and a peer at a place of m
 
 -- an entry's octets as they were, and over the first two its new index
 pub renumbered : (m : List ℕ) (at n k : ℕ) → Octets m → Lies (entry n) (drop at m) → let it = item (entry n) (drop at m) in

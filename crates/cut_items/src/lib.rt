@@ -17,31 +17,20 @@ ghost use Rattle.octets_spec.specs.Over.{over};
 ghost use Rattle.form_spec.specs.Found.{Lie, items, Lies, item};
 ghost use Rattle.cut_spec.specs.Moved.{moved, newIndexesFrom, sieved};
 ghost use Rattle.cut_spec.specs.Laid.{laid, Roomy};
+ghost use Rattle.mutes_spec.specs.Slots.{Filled};
 use blocks::copy_block;
 use look::entry_index;
 use look::entry_size;
 use look::peer_as;
 use look::peer_end;
+use mutes::listed;
+use mutes_spec::Slots;
 use octets::put_number;
 
 // How many items stay, and where what was laid of them ends.
 pub struct Laid {
     pub kept: u64,
     pub end: usize,
-}
-
-// Whether an AS number is on the list.
-pub fn listed(number: u64, mutes: &[u32]) -> bool
-    ensures { λ r. ⌜ r ≡ mem number (now (mutes .entry)) ⌝ }
-{
-    let mut i = 0;
-    while i < mutes.len() {
-        if number == mutes[i] as u64 {
-            return true;
-        }
-        i += 1;
-    }
-    false
 }
 
 // The one routine that tells what becomes of a peer.
@@ -140,17 +129,18 @@ pub fn fill_new_indexes(
     from: usize,
     count: u64,
     mutes: &[u32],
+    slots: &Slots,
     new_indexes: &mut [u16; 65536],
 ) -> u64
     requires { ⌜ Lie peer count (drop from (now m)) ⌝ }
-    requires { ⌜ (length (now «new_indexes») ≡ 65536) × (count < 65536) ⌝ }
+    requires { ⌜ (length (now «new_indexes») ≡ 65536) × (count < 65536) × Filled (now mutes) (now slots) ⌝ }
     ensures { λ r. ⌜ (r ≡ length (kept (λ n. mem n (now (mutes .entry))) (map (asOf peer) (items peer count (drop from (now (m .entry))))))) × (now («new_indexes» .exit) ≡ over (now («new_indexes» .entry)) 0 (newIndexesFrom (λ n. mem n (now (mutes .entry))) (map (asOf peer) (items peer count (drop from (now (m .entry))))) 0)) ⌝ }
 {
     let mut at = from;
     let mut i = 0;
     let mut k: u16 = 0;
     while (i as u64) < count {
-        let gone = listed(peer_as(m, at), mutes);
+        let gone = listed(peer_as(m, at), mutes, slots);
         new_indexes[i] = index_of(gone, k);
         k = count_of(gone, k);
         at = peer_end(m, at);

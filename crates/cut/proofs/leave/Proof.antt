@@ -10,6 +10,7 @@ use Rattle.record_spec.specs.Answer.{place}
 use Rattle.look_spec.specs.Sort.{sortBy, isTable}
 use Rattle.look_spec.specs.Field.{Told, shown, typeOf, subtypeOf, Good}
 use Rattle.look_laws.proofs.There.{sorted}
+use Rattle.mutes_spec.specs.Slots.{Filled}
 use Rattle.cut.specs.State.{tableTold}
 use Rattle.cut.specs.Stands.{Stands}
 use Rattle.cut.proofs.One.{Is, goes-on, fate-is}
@@ -19,10 +20,10 @@ use Rattle.cut.proofs.leave.Statement.{statement}
 use Rattle.cut.proofs.leave.Tie as tie
 
 abbrev Inv-loop : tie.InvT-loop
-Inv-loop d w mutes newIndexes₀ out₀ lays longest at₀ s₀ f₀ newIndexes out at s f = Turn longest (w .start) (w .end) mutes d lays newIndexes out₀ out at s f
+Inv-loop d w mutes slots newIndexes₀ out₀ lays longest at₀ s₀ f₀ newIndexes out at s f = Turn longest (w .start) (w .end) mutes d lays newIndexes out₀ out at s f
 
 abbrev μ-loop : tie.MeasureT-loop
-μ-loop d w mutes newIndexes₀ out₀ lays longest at₀ s₀ f₀ newIndexes out at s f = length d - at
+μ-loop d w mutes slots newIndexes₀ out₀ lays longest at₀ s₀ f₀ newIndexes out at s f = length d - at
 
 -- ---- a turn, and where it started
 
@@ -48,6 +49,10 @@ told c = let l = turn c in record { longest = start l .args .longest; table = ta
 
 octets : (c : tie.At-loop Inv-loop μ-loop) → Octets (now (start c .args .d))
 octets c = octets-of (now (start c .args .d)) (λ k. omega (arith, c .before .before .before .shared-slice-known .given k))
+
+-- the slots are those of the list
+filled : (c : tie.At-loop Inv-loop μ-loop) → let a = start c .args in Filled (now (a .mutes)) (now (a .slots))
+filled c = start c .pre .1 .0 .1
 
 -- a good record stands there
 stands : (c : tie.In-loop Inv-loop μ-loop) → let l = turn c in
@@ -88,7 +93,7 @@ loop-holds : tie.Need-loop-holds Inv-loop μ-loop
 loop-holds c =
     let q = c .before .before .before in
     let a = q .args in
-    turn-starts (a .longest) (a .w .start) (a .w .end) (now (a .mutes)) (now (a .d)) (a .lays) (now (a .new-indexes)) (now (a .out)) (q .pre .0) (q .pre .1 .0)
+    turn-starts (a .longest) (a .w .start) (a .w .end) (now (a .mutes)) (now (a .d)) (a .lays) (now (a .new-indexes)) (now (a .out)) (q .pre .0) (q .pre .1 .0 .0)
 
 type-of-requires : tie.Need-type-of-requires Inv-loop μ-loop
 type-of-requires c κs = (told c, good c)
@@ -105,13 +110,13 @@ table-behind-requires c κs =
     let b = from-kind k in
     let e = kind k in
     let s = ap₂ sortBy (sym (e .0)) (sym (e .1)) ∙ sym (sorted (told b) _ _ (good b)) in
-    (stands b, (c .before .is-peer-table .ensures ∙ ap isTable s, turn b .loop .inv .long))
+    (stands b, (c .before .is-peer-table .ensures ∙ ap isTable s, (turn b .loop .inv .long, filled (turn b))))
 
 end-at-requires : tie.Need-end-at-requires Inv-loop μ-loop
 end-at-requires c κs = let b = from-kind (c .before .before .before) in (told b, good b)
 
 fate-of-requires : tie.Need-fate-of-requires Inv-loop μ-loop
-fate-of-requires c κs = let k = from-end c in let b = from-kind k in (told b, good b, kind k)
+fate-of-requires c κs = let k = from-end c in let b = from-kind k in ((told b, good b, kind k), filled (turn b))
 
 pass-requires : tie.Need-pass-requires Inv-loop μ-loop
 pass-requires c κs =

@@ -61,7 +61,8 @@ fill-new-indexes-requires : tie.Need-fill-new-indexes-requires
 fill-new-indexes-requires c κs =
     let k = c .before in
     let p = peers k in
-    (p .lie, (start (counting (k .before)) .pre .1 .1, p .few))
+    let lent = start (counting (k .before)) .pre .1 .1 in
+    (p .lie, (lent .0, p .few, lent .1))
 
 returns : tie.Need-returns
 returns c =
@@ -70,7 +71,7 @@ returns c =
     let a = q .args in
     let p = peers k in
     let e = c .fill-new-indexes .ensures in
-    let l = q .pre .1 .1 in
+    let l = q .pre .1 .1 .0 in
     let few = p .few in
     let from = k .before .peer-count-at .result + 2 in
     let n = k .count .result in (
@@ -82,7 +83,7 @@ returns c =
 returns-2 : tie.Need-returns-2
 returns-2 c =
     let q = c .before .before .before in
-    (table-stays (octets (c .before .before)) (q .pre .0) (sym (q .pre .1 .0) ∙ c .if1 .left), q .pre .0 .step, q .pre .1 .1)
+    (table-stays (octets (c .before .before)) (q .pre .0) (sym (q .pre .1 .0) ∙ c .if1 .left), q .pre .0 .step, q .pre .1 .1 .0)
 
 pub table-behind-spec : {M : Type 1} → statement M
 table-behind-spec =

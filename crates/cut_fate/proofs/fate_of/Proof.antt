@@ -27,17 +27,17 @@ start c = c .before .before
 
 -- the sort that type and subtype say
 sorts : (c : tie.After-shared-slice-known2) → let a = start c .args in Shows (now (a .d)) (a .at) (λ x. sortOf x ≡ sortBy (a .ty) (a .subtype))
-sorts c = sort-known _ _ _ _ (start c .pre)
+sorts c = sort-known _ _ _ _ (start c .pre .0)
 
 -- ---- what the readers of fields ask
 
 -- whether the type has microseconds
 timed : (c : tie.After-shared-slice-known2) (b : Bool) → let a = start c .args in finer (a .ty) ≡ b → Is (now (a .d)) (a .at) (λ x. finer (typeOf x) ≡ b)
-timed c b e = let k = start c .pre in (k .0, k .1, ap finer (k .2 .0) ∙ e)
+timed c b e = let k = start c .pre .0 in (k .0, k .1, ap finer (k .2 .0) ∙ e)
 
 -- the type's number
 typed : (c : tie.After-shared-slice-known2) (n : ℕ) → let a = start c .args in a .ty ≡ n → Is (now (a .d)) (a .at) (λ x. (typeOf x ≡ n) × (subtypeOf x ≡ a .subtype))
-typed c n e = let k = start c .pre in (k .0, k .1, (k .2 .0 ∙ e, k .2 .1))
+typed c n e = let k = start c .pre .0 in (k .0, k .1, (k .2 .0 ∙ e, k .2 .1))
 
 -- ---- what is answered
 
@@ -106,7 +106,7 @@ heard-requires-3 c κs = search needs
 table-fate-requires : tie.Need-table-fate-requires
 table-fate-requires c κs =
     let q = c .before .before in
-    let k = start q .pre in
+    let k = start q .pre .0 in
     (k .0, k .1, sorts q (k .0) (k .1) ∙ sort-first _ _ (c .before .match .keys4) (c .if1 .taken))
 
 returns : tie.Need-returns
@@ -119,7 +119,7 @@ returns c =
 rib-fate-requires : tie.Need-rib-fate-requires
 rib-fate-requires c κs =
     let q = c .before .before in
-    let k = start q .pre in
+    let k = start q .pre .0 in
     (k .0, k .1, (sorts q (k .0) (k .1) ∙ sort-other _ _ (c .before .match .keys4) (c .if1 .left), k .2 .1))
 
 micros-requires-2 : tie.Need-micros-requires-2

@@ -21,10 +21,10 @@ abbrev gone : List ℕ → ℕ → Bool
 gone mutes n = mem n mutes
 
 abbrev Inv-loop : tie.InvT-loop
-Inv-loop m from count mutes newIndexes₀ at₀ i₀ k₀ newIndexes at i k = Filling m (gone mutes) (items peer count (drop from m)) newIndexes₀ newIndexes count at i k
+Inv-loop m from count mutes slots newIndexes₀ at₀ i₀ k₀ newIndexes at i k = Filling m (gone mutes) (items peer count (drop from m)) newIndexes₀ newIndexes count at i k
 
 abbrev μ-loop : tie.MeasureT-loop
-μ-loop m from count mutes newIndexes₀ at₀ i₀ k₀ newIndexes at i k = count - i
+μ-loop m from count mutes slots newIndexes₀ at₀ i₀ k₀ newIndexes at i k = count - i
 
 -- the call that a turn of the loop belongs to
 abbrev start : (c : tie.At-loop Inv-loop μ-loop) → tie.Start Inv-loop μ-loop

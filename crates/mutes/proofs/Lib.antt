@@ -1,0 +1,4 @@
+pub mod Members
+pub mod Look
+pub mod Turns
+pub mod Held
