@@ -73,7 +73,8 @@ void dagsumilat_report(const uint8_t *dump, size_t dump_len, uint64_t report[39]
 
 /*
  * Cuts a dump: records from `from` up to but not including `to`, without the peers whose AS is among `mutes` (any order, repeats
- * allowed). Peer tables are kept at any time. Whatever the dump, out_len = dump_len is enough. Needs some 140 KB of stack.
+ * allowed). Peer tables are kept at any time. Whatever the dump, out_len = dump_len is enough. Needs some 530 KB of stack,
+ * however long dump and list are.
  *
  * answer[0]  0, or 14, the dump's number or 15, asked in this order
  * answer[1]  0, or where the dump's faulty record starts

@@ -66,7 +66,7 @@ pub struct Window {
 /// What is left of a dump inside the window, without the peers whose AS is among `mutes`.
 ///
 /// Peer tables are kept at any time. A backward window is refused, then a dump with a fault. Needs
-/// some 140 KB of stack.
+/// some 530 KB of stack, however long dump and list are.
 pub fn cut(dump: &[u8], window: Window, mutes: &[u32]) -> Result<Vec<u8>, Refusal> {
     let mut out = vec![0; dump.len()];
     in_large_pages(&out);
