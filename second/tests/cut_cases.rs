@@ -15,6 +15,17 @@ fn cuts_are_as_meant() {
     assert!(meant >= 300);
 }
 
+/// The cases that no file can hold.
+#[test]
+fn longer_lists_are_as_meant() {
+    let book = Book::past_files();
+    for (name, case) in book.iter() {
+        assert!(case.ask.list.len() > 65_535, "{name} fits in a file");
+        assert_eq!(Some(&case.answer()), case.intent.as_ref(), "{name}");
+    }
+    assert_eq!(book.iter().count(), 11);
+}
+
 #[test]
 fn every_fault_is_meant_somewhere() {
     let book = Book::generate();
@@ -28,10 +39,12 @@ fn sizes_are_as_wanted() {
     let book = Book::generate();
     let sizes: Vec<usize> = book.iter().map(|(_, case)| case.to_octets().len()).collect();
     assert!(sizes.len() >= 400);
-    assert!(sizes.iter().sum::<usize>() < 1_400_000);
+    assert!(sizes.iter().sum::<usize>() < 2_400_000);
     assert!(sizes.iter().all(|size| *size <= 524_288));
-    let small = sizes.iter().filter(|size| **size < 2_000).count();
+    let small = sizes.iter().filter(|size| **size < 3_000).count();
     assert!(small * 100 >= sizes.len() * 95);
+    let largest = sizes.iter().filter(|size| **size > 200_000).count();
+    assert!(largest <= 5);
     assert!(book.iter().all(|(_, case)| case.room <= 524_288));
 }
 

@@ -1,8 +1,11 @@
 //! Cuts made up for comparing two programs.
 
+mod chains;
 mod examples;
 pub(crate) mod faults;
 mod large;
+mod lists;
+mod long_lists;
 mod micros;
 mod numbers;
 mod parts;
@@ -119,11 +122,21 @@ impl Book {
         windows::add(&mut book);
         micros::add(&mut book);
         numbers::add(&mut book);
+        lists::add(&mut book);
+        chains::add(&mut book);
+        long_lists::add(&mut book);
         tables::add(&mut book);
         rooms::add(&mut book);
         faults::add(&mut book);
         large::add(&mut book);
         random::add(&mut book);
+        book
+    }
+
+    /// Cases whose lists are longer than a case file can count, and so are not stored.
+    pub fn past_files() -> Book {
+        let mut book = Book::default();
+        long_lists::add_longer(&mut book);
         book
     }
 
