@@ -6,6 +6,7 @@ use crate::desks::Desks;
 use crate::expected;
 use crate::itself;
 use crate::making;
+use crate::muting;
 use crate::naming::{self, NameCalls};
 use crate::reading;
 use crate::reporting;
@@ -44,7 +45,8 @@ impl fmt::Display for Difference {
 }
 
 /// Makes a dump from a seed and compares all calls with it; then the writers with fields of their
-/// own, the report with dumps of its own, and names with tables of their own.
+/// own, the report with dumps of its own, names with tables of their own, and a list with a dump of
+/// its own.
 pub fn compare_seed(seed: u64, desks: &mut Desks, tally: &mut Tally) -> Result<(), Difference> {
     let mut rng = Rng::seeded(seed);
     let made = making::any(&mut rng);
@@ -59,6 +61,8 @@ pub fn compare_seed(seed: u64, desks: &mut Desks, tally: &mut Tally) -> Result<(
         .map_err(|(dump, told)| differs(&dump, told))?;
     let calls = NameCalls { check: &calls::check, write: &writing::written };
     naming::compare(calls, &mut Rng::seeded(seed ^ NAMES), desks, tally)
+        .map_err(|(dump, told)| differs(&dump, told))?;
+    muting::compare(&calls::cut, seed, &mut desks.dump, tally)
         .map_err(|(dump, told)| differs(&dump, told))?;
     let Some(field) = made.field else {
         return Ok(());

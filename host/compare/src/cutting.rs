@@ -1,16 +1,20 @@
 //! Cuts by both programs, and the laws of cutting twice and of dumps laid end to end.
 
-use crate::desk::{Ask, Desk, Spots};
+use crate::desk::{Ask, CutCall, Desk, Spots};
 use crate::itself;
 use crate::making::{ask, good, Known};
 use crate::tally::Tally;
 use crate::telling::{same, Told};
+use dagsumilat::calls;
 use second::cut;
 use second::dump::Dump;
 use second::vectors::rng::Rng;
 
 /// A dump above this size is cut in fewer ways, since the second program takes long for it.
 const SHORT: usize = 50_000;
+
+/// A longer list is told by its length: the seed makes it again.
+const TOLD: usize = 5_000;
 
 /// Leaves other dumps laid than the one given.
 pub fn compare(
@@ -46,7 +50,11 @@ fn rooms(dump: &[u8], fit: usize, rng: &mut Rng) -> Vec<usize> {
 }
 
 fn call(ask: &Ask, room: usize) -> String {
-    format!("cut from={} to={} list={:?} room={room}", ask.from, ask.to, ask.list)
+    let list = match ask.list.len() {
+        count @ 0..=TOLD => format!("{:?}", &ask.list[..count]),
+        count => format!("{count} numbers"),
+    };
+    format!("cut from={} to={} list={list} room={room}", ask.from, ask.to)
 }
 
 /// Cuts the laid dump for a buffer of so many octets; how many are left of it.
@@ -57,13 +65,27 @@ pub fn compare_room(
     desk: &mut Desk,
     tally: &mut Tally,
 ) -> Told<usize> {
+    compare_room_by(&calls::cut, dump, ask, room, desk, tally)
+}
+
+/// The same by the library's call, or by one in its place.
+pub fn compare_room_by(
+    by: CutCall,
+    dump: &[u8],
+    ask: &Ask,
+    room: usize,
+    desk: &mut Desk,
+    tally: &mut Tally,
+) -> Told<usize> {
     let expected = cut::cut(dump, ask.from, ask.to, &ask.list, room);
     let left = expected.octets.len();
     let words = [expected.fault.into(), expected.place as u64, left as u64];
-    same(|| call(ask, room), desk.cut(ask, room)?, words)?;
+    same(|| call(ask, room), desk.cut_by(by, ask, room)?, words)?;
     same(|| call(ask, room), desk.written(left), expected.octets.as_slice())?;
+    let is_changed = left != 0 && expected.octets != dump;
     tally.cuts[usize::from(expected.fault)] += 1;
-    tally.changed += u64::from(left != 0 && expected.octets != dump);
+    tally.changed += u64::from(is_changed);
+    tally.list(ask.list.len(), is_changed);
     Ok(left)
 }
 

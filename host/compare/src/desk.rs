@@ -4,6 +4,7 @@
 use crate::lending::{words, Loan, Spot};
 use crate::telling::Told;
 use dagsumilat::calls;
+use second::cut_cases;
 use second::vectors::rng::Rng;
 
 /// A longer dump is not held against its copy after every call, but by [`Desk::is_unchanged`].
@@ -15,12 +16,24 @@ pub type ReportCall<'a> = &'a dyn Fn(&[u8], &mut [u64; 39], &mut [u64; 2]);
 /// The call for a check, or one in its place.
 pub type CheckCall<'a> = &'a dyn Fn(&[u8], &mut [u64; 3]);
 
+/// A cut: of a dump, with a window's start and end and a list, into a buffer; and the answer.
+pub type Cut = dyn Fn(&[u8], u64, u64, &[u32], &mut [u8], &mut [u64; 3]);
+
+/// The call for a cut, or one in its place.
+pub type CutCall<'a> = &'a Cut;
+
 /// A window and a list.
 #[derive(Clone, Debug, PartialEq, Eq)]
 pub struct Ask {
     pub from: u64,
     pub to: u64,
     pub list: Vec<u32>,
+}
+
+impl From<&cut_cases::Ask> for Ask {
+    fn from(ask: &cut_cases::Ask) -> Ask {
+        Ask { from: ask.start, to: ask.end, list: ask.list.clone() }
+    }
 }
 
 #[derive(Default)]
@@ -113,12 +126,16 @@ impl Desk {
 
     /// The answer; what was written is [`Desk::written`].
     pub fn cut(&mut self, ask: &Ask, room: usize) -> Told<[u64; 3]> {
+        self.cut_by(&calls::cut, ask, room)
+    }
+
+    pub fn cut_by(&mut self, call: CutCall, ask: &Ask, room: usize) -> Told<[u64; 3]> {
         self.mutes.lay(&ask.list, self.spots.mutes);
         self.out.clear(room, self.spots.out);
         let (mutes, out) = (self.mutes.lent(), self.out.lent_mut());
         self.answer.clear(3, self.spots.answer);
         let answer = words(self.answer.lent_mut());
-        calls::cut(self.dump.lent(), ask.from, ask.to, mutes, out, answer);
+        call(self.dump.lent(), ask.from, ask.to, mutes, out, answer);
         let answer = *answer;
         self.is_fenced("cut")?;
         if self.mutes.lent() != ask.list {

@@ -12,6 +12,7 @@ pub mod expected_fields;
 pub mod itself;
 pub mod lending;
 pub mod making;
+pub mod muting;
 pub mod naming;
 pub mod reading;
 pub mod reporting;

@@ -7,6 +7,9 @@ use std::fmt;
 /// Answers are 0 to 17.
 pub const ANSWERS: usize = 18;
 
+/// Cuts are counted that have lists of so many numbers or more.
+pub const LISTS: [usize; 4] = [100, 1_000, 65_536, 70_000];
+
 /// How often each turn of a writer slipped together with each other one.
 #[derive(Clone, Copy, Debug, Default, PartialEq, Eq)]
 pub struct Pairs([[u64; Writer::MOST_TURNS]; Writer::MOST_TURNS]);
@@ -55,6 +58,9 @@ pub struct Tally {
     pub cuts: [u64; ANSWERS],
     /// Cuts that leave something, but not the dump as it was.
     pub changed: u64,
+    /// Cuts with lists that reach each of [`LISTS`], and how many of them leave something, but not
+    /// the dump as it was.
+    pub lists: [[u64; 2]; LISTS.len()],
     /// Cuts of cuts.
     pub twice: u64,
     /// Cuts of two dumps laid end to end.
@@ -91,6 +97,7 @@ impl Default for Tally {
             slips: Default::default(),
             cuts: [0; ANSWERS],
             changed: 0,
+            lists: [[0; 2]; LISTS.len()],
             twice: 0,
             joined: 0,
             reports: [0; ANSWERS],
@@ -112,6 +119,14 @@ impl Tally {
     /// A dump of which this field is damaged.
     pub fn field(&mut self, field: Field, is_refused: bool) {
         self.fields[field as usize][usize::from(is_refused)] += 1;
+    }
+
+    /// A cut with a list of so many numbers.
+    pub fn list(&mut self, numbers: usize, is_changed: bool) {
+        for (size, [all, changed]) in LISTS.iter().zip(&mut self.lists) {
+            *all += u64::from(numbers >= *size);
+            *changed += u64::from(numbers >= *size && is_changed);
+        }
     }
 
     /// How many dumps with one field damaged are accepted, and how many refused.
@@ -138,6 +153,7 @@ impl Tally {
         all(&mut self.reports, &other.reports);
         all(&mut self.counted, &other.counted);
         all(&mut self.seams, &other.seams);
+        self.lists.iter_mut().zip(&other.lists).for_each(|(to, from)| all(to, from));
         self.named.iter_mut().zip(&other.named).for_each(|(to, from)| all(to, from));
         self.written.iter_mut().zip(&other.written).for_each(|(to, from)| all(to, from));
         for (to, from) in self.slips.iter_mut().zip(&other.slips) {
@@ -155,6 +171,15 @@ impl Tally {
         self.wraps += other.wraps;
         self.goes_on += other.goes_on;
         self.sums += other.sums;
+    }
+
+    fn tell_cuts(&self, f: &mut fmt::Formatter) -> fmt::Result {
+        writeln!(f, "cuts by answer, from 0 on: {:?}", self.cuts)?;
+        writeln!(f, "{} cuts leave something else than all or nothing", self.changed)?;
+        for (size, [all, changed]) in LISTS.iter().zip(self.lists) {
+            writeln!(f, "  with lists of {size} numbers or more: {changed} of {all} cuts")?;
+        }
+        writeln!(f, "{} cuts of cuts, {} cuts of two dumps end to end", self.twice, self.joined)
     }
 }
 
@@ -179,9 +204,7 @@ impl fmt::Display for Tally {
             writeln!(f, "  {writer:?}: {back} written again; by answer, from 0 on: {counts:?}")?;
             writeln!(f, "    any two fields at fault together: {fewest} times or more")?;
         }
-        writeln!(f, "cuts by answer, from 0 on: {:?}", self.cuts)?;
-        writeln!(f, "{} cuts leave something else than all or nothing", self.changed)?;
-        writeln!(f, "{} cuts of cuts, {} cuts of two dumps end to end", self.twice, self.joined)?;
+        self.tell_cuts(f)?;
         writeln!(f, "reports by answer, from 0 on: {:?}", self.reports)?;
         let [records, changes, breaks, cells @ ..] = self.counted;
         writeln!(f, "  {records} records, {changes} state changes, {breaks} breaks")?;

@@ -1,6 +1,9 @@
 //! Reports with one mistake each, put in the place of the library's call: the comparison must find
-//! every one, and nothing in the same report without a mistake. Then the same with view names.
+//! every one, and nothing in the same report without a mistake. Then the same with view names and
+//! with looking numbers up in a list.
 
+#[path = "mistakes/lists.rs"]
+mod lists;
 #[path = "mistakes/names.rs"]
 mod names;
 

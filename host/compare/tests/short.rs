@@ -60,6 +60,7 @@ fn is_telling(tally: &Tally) {
     assert!(tally.records > tally.dumps && tally.items > tally.dumps, "few records:\n{tally}");
     reports_are_telling(tally);
     names_are_telling(tally);
+    lists_are_telling(tally);
 }
 
 /// The numbers that a dump or a record can have.
@@ -83,6 +84,14 @@ fn names_are_telling(tally: &Tally) {
     are_met("names written", &calls, |answer| matches!(answer, 0 | 5 | 6 | 15 | 17), tally);
     let is_common = |number: usize| tally.faults[number] * 200 > tally.dumps;
     assert!(is_common(17) && tally.cuts[17] * 40 > tally.dumps, "few names refused:\n{tally}");
+}
+
+/// Lists of every length were met, also with numbers behind the first 65,535, and did something.
+fn lists_are_telling(tally: &Tally) {
+    let is_without_effect = |[_, changed]: &[u64; 2]| *changed == 0;
+    assert!(!tally.lists.iter().any(is_without_effect), "lists without effect:\n{tally}");
+    let [hundred, thousand, ..] = tally.lists.map(|[_, changed]| changed);
+    assert!(hundred * 15 > tally.dumps && thousand * 20 > tally.dumps, "few lists:\n{tally}");
 }
 
 /// Every answer that a report has, every cell, chains that wrap and break, and every sort of seam.
@@ -127,13 +136,25 @@ fn the_suite_shows_no_difference() {
 fn the_book_shows_no_difference() {
     let (mut desks, mut tally, mut rng) = (Desks::default(), Tally::default(), Rng::seeded(2));
     for (name, case) in cut_cases::Book::generate().iter() {
-        let (from, to, list) = (case.ask.start, case.ask.end, case.ask.list.clone());
         desks.dump.lay(&case.dump, Spots::default());
-        compare_room(&case.dump, &Ask { from, to, list }, case.room, &mut desks.dump, &mut tally)
+        compare_room(&case.dump, &Ask::from(&case.ask), case.room, &mut desks.dump, &mut tally)
             .and_then(|_| compare_dump(&case.dump, &mut rng, &mut desks, &mut tally))
             .unwrap_or_else(|told| panic!("{name}: {told}"));
     }
     assert!(tally.changed > 0 && tally.cuts[14] > 0 && tally.cuts[15] > 0, "{tally}");
+}
+
+/// The second program's cuts with lists that are too long for its book.
+#[test]
+fn longer_lists_show_no_difference() {
+    let (mut desks, mut tally) = (Desks::default(), Tally::default());
+    for (name, case) in cut_cases::Book::past_files().iter() {
+        desks.dump.lay(&case.dump, Spots::default());
+        compare_room(&case.dump, &Ask::from(&case.ask), case.room, &mut desks.dump, &mut tally)
+            .unwrap_or_else(|told| panic!("{name}: {told}"));
+    }
+    let [.., past_kept, _] = tally.lists;
+    assert_eq!(past_kept, [tally.cuts[0]; 2], "{tally}");
 }
 
 /// The second program's book of records to be written, each made for one field or for two.

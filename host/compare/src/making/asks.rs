@@ -1,5 +1,6 @@
 //! Windows and lists that have to do with a dump.
 
+use super::lists::{list, Length};
 use super::records::NUMBERS;
 use crate::desk::Ask;
 use crate::expected::peer_as;
@@ -9,9 +10,6 @@ use second::vectors::rng::Rng;
 
 /// The largest time that a record can have.
 const LAST: u64 = 4_294_971_589_967_295;
-
-/// More than any list of a few numbers.
-const LONG_LIST: usize = 500;
 
 /// The times and peer AS numbers of a dump's records.
 pub struct Known {
@@ -31,6 +29,10 @@ impl Known {
             }
         }
         Known { times, numbers }
+    }
+
+    pub fn numbers(&self) -> &[u32] {
+        &self.numbers
     }
 
     /// A record's time or one beside it, or an end of all times.
@@ -64,9 +66,9 @@ pub fn ask(known: &Known, rng: &mut Rng) -> Ask {
         1..=9 => (0, u64::MAX),
         _ => (one.min(other), one.max(other)),
     };
-    let count = match rng.below(40) {
-        0 => LONG_LIST + rng.below(LONG_LIST),
-        drawn => drawn % 6,
+    let list = match rng.below(40) {
+        0 => list(&known.numbers, Length::Many, rng),
+        drawn => (0..drawn % 6).map(|_| known.number(rng)).collect(),
     };
-    Ask { from, to, list: (0..count).map(|_| known.number(rng)).collect() }
+    Ask { from, to, list }
 }

@@ -31,6 +31,8 @@ pub struct Maker<'a> {
     pub rng: &'a mut Rng,
     /// One field in so many slips over an edge; 0 for none at all.
     slips: usize,
+    /// AS numbers to draw from.
+    numbers: &'a [u32],
     out: Vec<u8>,
     /// The peers of the table in force.
     peers: Option<usize>,
@@ -38,7 +40,12 @@ pub struct Maker<'a> {
 
 impl<'a> Maker<'a> {
     pub fn new(rng: &'a mut Rng, slips: usize) -> Maker<'a> {
-        Maker { rng, slips, out: Vec::new(), peers: None }
+        Maker { rng, slips, numbers: &NUMBERS, out: Vec::new(), peers: None }
+    }
+
+    /// Without slips, and most AS numbers are of these.
+    pub fn drawing(numbers: &'a [u32], rng: &'a mut Rng) -> Maker<'a> {
+        Maker { numbers, ..Maker::new(rng, 0) }
     }
 
     /// So many records.
@@ -145,7 +152,7 @@ impl<'a> Maker<'a> {
 
     /// An AS number of 2 or 4 octets.
     fn number(&mut self, wide: bool) {
-        let drawn = *self.rng.pick(&NUMBERS);
+        let drawn = *self.rng.pick(self.numbers);
         let number = if self.rng.below(6) == 0 { self.rng.word() as u32 } else { drawn };
         let octets = number.to_be_bytes();
         self.out.extend(if wide { &octets } else { &octets[2..] });
