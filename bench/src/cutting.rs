@@ -42,8 +42,7 @@ impl Ask {
         let (one, other) = (time(), time());
         let (from, to) = (one.min(other), one.max(other));
         let (from, to) = if random.once_in(20) { (to, from) } else { (from, to) };
-        let count = random.within(0, 3);
-        let list = (0..count).map(|_| small::number(random)).collect();
+        let list = if random.once_in(50) { long_list(random) } else { short_list(random) };
         Ask { from, to, list }
     }
 
@@ -56,7 +55,7 @@ impl Ask {
     }
 
     /// Both cuts, which must be the same in all octets of a buffer longer than the room.
-    fn both(&self, name: &str, dump: &[u8], room: usize) -> (Answer, Vec<u8>) {
+    pub fn both(&self, name: &str, dump: &[u8], room: usize) -> (Answer, Vec<u8>) {
         let mut buffers = [(); 2].map(|_| vec![CANARY; room + BEHIND]);
         let [one, other] = &mut buffers;
         let answer = self.plain(dump, &mut one[..room]);
@@ -68,6 +67,26 @@ impl Ask {
         octets.truncate(written);
         (answer, octets)
     }
+}
+
+/// Up to 3 of the small dumps' numbers.
+fn short_list(random: &mut Random) -> Vec<u32> {
+    (0..random.within(0, 3)).map(|_| small::number(random)).collect()
+}
+
+/// The same among some hundred others: any numbers, numbers alike in their last 16 bits with the
+/// small dumps' ones, and repeats.
+fn long_list(random: &mut Random) -> Vec<u32> {
+    let mut list = short_list(random);
+    for count in list.len()..random.within(300, 1000) {
+        list.push(match random.within(0, 3) {
+            0 if count > 0 => list[random.within(0, count - 1)],
+            1 => random.next() as u32,
+            _ => small::number(random) ^ (random.next() as u32) << 16,
+        });
+    }
+    random.shuffle(&mut list);
+    list
 }
 
 pub fn compare() {

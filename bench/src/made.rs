@@ -24,7 +24,7 @@ impl Peer {
         &self.octets[..if self.wide_as { 4 } else { 2 }]
     }
 
-    fn number(&self) -> u32 {
+    pub fn number(&self) -> u32 {
         self.as_octets().iter().fold(0, |number, octet| number << 8 | u32::from(*octet))
     }
 
@@ -211,21 +211,50 @@ pub fn prefix(random: &mut Random, out: &mut Vec<u8>, bits: usize) {
 /// So many entries of rising peers.
 pub fn entries(random: &mut Random, out: &mut Vec<u8>, ipv6: bool, count: usize, peers: usize) {
     out.extend((count as u16).to_be_bytes());
-    for entry in 0..count {
-        let index = random.within(entry * peers / count, (entry + 1) * peers / count - 1);
-        out.extend((index as u16).to_be_bytes());
-        out.extend((ROUND - random.within(0, 1_000_000) as u32).to_be_bytes());
-        counted(out, |out| attributes(random, out, ipv6));
+    for number in 0..count {
+        let index = random.within(number * peers / count, (number + 1) * peers / count - 1);
+        entry(random, out, ipv6, index);
     }
+}
+
+fn entry(random: &mut Random, out: &mut Vec<u8>, ipv6: bool, index: usize) {
+    out.extend((index as u16).to_be_bytes());
+    out.extend((ROUND - random.within(0, 1_000_000) as u32).to_be_bytes());
+    counted(out, |out| attributes(random, out, ipv6));
 }
 
 /// A table of so many peers, then type 13, subtypes 2 and 4, with 5 to 30 entries each.
 pub fn table(size: usize, count: usize) -> Made {
     let mut random = Random::new(13);
-    let random = &mut random;
-    let peers = peers(random, count);
+    let peers = peers(&mut random, count);
+    table_of(&mut random, size, &peers, |random, out, ipv6| {
+        let entry_count = random.within(5, 30);
+        entries(random, out, ipv6, entry_count, count);
+    })
+}
+
+/// The same with these peers, and 5 to 20 entries of peers drawn anew for each: the entries' number
+/// and how well they are foreseen is the same for 20 peers as for more.
+pub fn drawn_table(random: &mut Random, size: usize, peers: &[Peer]) -> Made {
+    table_of(random, size, peers, |random, out, ipv6| {
+        let entry_count = random.within(5, 20);
+        out.extend((entry_count as u16).to_be_bytes());
+        for _ in 0..entry_count {
+            let index = random.within(0, peers.len() - 1);
+            entry(random, out, ipv6, index);
+        }
+    })
+}
+
+/// A table of these peers, then type 13, subtypes 2 and 4, whose counts and entries `fill` writes.
+fn table_of(
+    random: &mut Random,
+    size: usize,
+    peers: &[Peer],
+    fill: impl Fn(&mut Random, &mut Vec<u8>, bool),
+) -> Made {
     let mut out = Vec::with_capacity(size + 5000);
-    peer_table(&mut out, &peers);
+    peer_table(&mut out, peers);
     let mut sequence = 0_u32;
     while out.len() < size {
         let ipv6 = random.once_in(5);
@@ -233,12 +262,11 @@ pub fn table(size: usize, count: usize) -> Made {
             out.extend(sequence.to_be_bytes());
             let bits = if ipv6 { random.within(24, 48) } else { random.within(12, 24) };
             prefix(random, out, bits);
-            let entry_count = random.within(5, 30);
-            entries(random, out, ipv6, entry_count, count);
+            fill(random, out, ipv6);
         });
         sequence += 1;
     }
-    Made { dump: out, numbers: numbers(&peers), seconds: ROUND..=ROUND }
+    Made { dump: out, numbers: numbers(peers), seconds: ROUND..=ROUND }
 }
 
 /// State changes alone, of types 16 and 17.

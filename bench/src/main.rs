@@ -1,10 +1,12 @@
 //! Times the proved check, report and cut of a dump against the same in plain Rust, and the report
-//! against the check, and counts instructions; or only compares their answers; or, given a folder, writes the dumps and their lists there, for other
-//! programs to be timed with.
+//! against the check, and counts instructions; or only compares their answers; or times the cut
+//! alone, with short, long and hostile mute lists; or, given a folder, writes the dumps and their
+//! lists there, for other programs to be timed with.
 
 mod checking;
 mod counting;
 mod cutting;
+mod lists;
 mod made;
 mod plain;
 mod plain_cut;
@@ -21,7 +23,7 @@ use made::Made;
 use std::path::Path;
 use std::{env, fs, io};
 
-const USAGE: &str = "usage: bench [compare | report | names | MEGABYTES [FOLDER]]";
+const USAGE: &str = "usage: bench [compare | report | names | lists | MEGABYTES [FOLDER]]";
 const MEGABYTE: usize = 1_000_000;
 
 /// A dump that stays in the cache shows what the code takes, a large one what memory adds.
@@ -101,6 +103,7 @@ fn main() {
         [] => compare_and_measure(LARGE),
         [counting::WORD, input, call] => counting::run(input, call),
         ["compare"] => compare(),
+        ["lists"] => lists::measure_all(),
         ["names"] => [1, SMALL, LARGE].into_iter().for_each(measure_names),
         ["report"] => [SMALL, LARGE].into_iter().for_each(reporting::measure_all),
         [megabytes] => compare_and_measure(size(megabytes)),

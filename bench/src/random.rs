@@ -28,4 +28,11 @@ impl Random {
     pub fn octets(&mut self, out: &mut Vec<u8>, n: usize) {
         out.extend((0..n).map(|_| self.next() as u8));
     }
+
+    /// Any order is as likely as any other (Fisher and Yates).
+    pub fn shuffle<T>(&mut self, items: &mut [T]) {
+        for last in (1..items.len()).rev() {
+            items.swap(last, self.within(0, last));
+        }
+    }
 }

@@ -25,6 +25,62 @@ pub fn best(
     best.map(|best| best.as_secs_f64())
 }
 
+/// About how long a series goes on, and how often it runs at least and at most.
+const LONGEST: Duration = Duration::from_secs(2);
+const FEWEST: usize = 3;
+const MOST: usize = 150;
+
+/// The best times of three things of which it is not known before how long they take: the first run
+/// says how many more there are, and none where it took too long by itself.
+pub struct Series {
+    best: [Duration; 3],
+    runs: usize,
+    wanted: usize,
+}
+
+impl Series {
+    pub fn new() -> Series {
+        Series { best: [Duration::MAX; 3], runs: 0, wanted: 1 }
+    }
+
+    pub fn goes_on(&self) -> bool {
+        self.runs < self.wanted
+    }
+
+    pub fn runs(&self) -> usize {
+        self.runs
+    }
+
+    pub fn seconds(&self) -> [f64; 3] {
+        self.best.map(|best| best.as_secs_f64())
+    }
+
+    /// Runs Rattle, plain and something known once.
+    pub fn time(
+        &mut self,
+        mut rattle: impl FnMut(),
+        mut plain: impl FnMut(),
+        mut known: impl FnMut(),
+    ) {
+        let taken = [time(&mut rattle), time(&mut plain), time(&mut known)];
+        if self.runs == 0 {
+            self.wanted = Series::wanted(taken.iter().sum());
+        }
+        self.runs += 1;
+        for (best, taken) in self.best.iter_mut().zip(taken) {
+            *best = taken.min(*best);
+        }
+    }
+
+    fn wanted(first: Duration) -> usize {
+        match LONGEST.as_nanos().checked_div(first.as_nanos()) {
+            Some(0) => 1,
+            Some(fit) => fit.clamp(FEWEST as u128, MOST as u128) as usize,
+            None => MOST,
+        }
+    }
+}
+
 fn time(run: &mut impl FnMut()) -> Duration {
     let start = Instant::now();
     run();
