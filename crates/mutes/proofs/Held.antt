@@ -13,7 +13,7 @@ use Rattle.cut_spec.specs.Cut.{mem}
 use Rattle.mutes_spec.specs.Slots.{atPlace, slotBehind, Comes, Has, emptySlots, SlotsHold}
 use Rattle.mutes.specs.LookEnds.{LookEnds}
 use Rattle.mutes.proofs.Members.{mem-parts, mem-at, mem-next}
-use Rattle.mutes.proofs.Look.{true-or-false, less-or-not, stops-at-one, Keeps, comes-kept, comes-before-next}
+use Rattle.mutes.proofs.Look.{is-or-is-not, less-or-not, stops-at-one, Keeps, comes-kept, comes-before-next}
 
 empty-long : length emptySlots ≡ 196608
 empty-long = length-replicate {A = ℕ} 196608 0
@@ -28,7 +28,7 @@ holds-none ms slots numbers e = rw e (record {
   allSlots = empty-long;
   few = omega arith;
   onList = omega arith;
-  numbers = numbers;
+  of32Bits = numbers;
   places = λ s. omega (arith, slot-empty s);
   forward = λ s h. absurd (omega (arith, slot-empty s, h));
   inPlace = λ s h. absurd (omega (arith, slot-empty s, h));
@@ -54,7 +54,7 @@ module _ {ms slots : List ℕ} {k : ℕ} (h : SlotsHold ms slots k) where
       allSlots = h .allSlots;
       few = omega arith;
       onList = omega arith;
-      numbers = h .numbers;
+      of32Bits = h .of32Bits;
       places = λ s. omega (arith, h .places s);
       forward = h .forward;
       inPlace = h .inPlace;
@@ -71,7 +71,7 @@ module _ {ms slots : List ℕ} {k : ℕ} (h : SlotsHold ms slots k) where
 
       -- what holds of e and of each other slot holds of all
       each : (P : ℕ → Type 0) → P e → ((s : ℕ) → (s ≡ e → ⊥) → P s) → (s : ℕ) → P s
-      each P p f s = ⊎-elim (λ t. rw (eqb-true s e t) p) (λ q. f s (eqb-false s e q)) (true-or-false (eqb s e))
+      each P p f s = ⊎-elim (λ t. rw (eqb-true s e t) p) (λ q. f s (eqb-false s e q)) (is-or-is-not (eqb s e))
 
       named : getD ms k 0 ≡ atPlace ms (getD (set slots e (k + 1)) e 0)
       named = ap (λ (i : ℕ). getD ms i 0) (omega (arith, at-end))
@@ -84,7 +84,7 @@ module _ {ms slots : List ℕ} {k : ℕ} (h : SlotsHold ms slots k) where
         allSlots = length-set slots e (k + 1) ∙ h .allSlots;
         few = omega arith;
         onList = omega arith;
-        numbers = h .numbers;
+        of32Bits = h .of32Bits;
         places = each (λ s. getD (set slots e (k + 1)) s 0 ≤ k + 1) (omega (arith, at-end)) (λ s q. omega (arith, elsewhere s q, h .places s));
         forward = each (λ s. 0 < getD (set slots e (k + 1)) s 0 → s < slotBehind (getD (set slots e (k + 1)) s 0) 0)
             (λ t. rw at-end (comes-before-next h (comes ends)))
@@ -109,4 +109,4 @@ module _ {ms slots : List ℕ} {k : ℕ} (h : SlotsHold ms slots k) where
 
   pub not-held : {n e : ℕ} → LookEnds ms slots n e → getD slots e 0 ≡ 0 → mem n ms ≡ mem n (drop k ms)
   not-held {n} ends z =
-      mem-parts n k ms ∙ ⊎-elim (λ t. let q = h .allHeld n t in absurd (not-among-held ends z (q .0) (q .1))) (λ f. ap (λ (b : Bool). b || mem n (drop k ms)) f) (true-or-false (mem n (take k ms)))
+      mem-parts n k ms ∙ ⊎-elim (λ t. let q = h .allHeld n t in absurd (not-among-held ends z (q .0) (q .1))) (λ f. ap (λ (b : Bool). b || mem n (drop k ms)) f) (is-or-is-not (mem n (take k ms)))

@@ -11,12 +11,12 @@ use lib.Dec.{ltb}
 use borrow.Author.Tests.{ltb-true, ltb-false}
 use Rattle.mutes_spec.specs.Slots.{slotBehind, bitsAfter, slotAfter, GoesOn, Passes, Comes, SlotsHold}
 
-pub true-or-false : (b : Bool) → (b ≡ true) ⊎ (b ≡ false)
-true-or-false true = inl refl
-true-or-false false = inr refl
+pub is-or-is-not : (b : Bool) → (b ≡ true) ⊎ (b ≡ false)
+is-or-is-not true = inl refl
+is-or-is-not false = inr refl
 
 pub less-or-not : (t u : ℕ) → (t < u) ⊎ (u ≤ t)
-less-or-not t u = ⊎-elim (λ h. inl (ltb-true t u h)) (λ h. inr (ltb-false t u h)) (true-or-false (ltb t u))
+less-or-not t u = ⊎-elim (λ h. inl (ltb-true t u h)) (λ h. inr (ltb-false t u h)) (is-or-is-not (ltb t u))
 
 -- ---- how far a look for n has come
 
@@ -71,19 +71,19 @@ module _ {ms slots : List ℕ} {k : ℕ} (h : SlotsHold ms slots k) where
 pub record Coming (ms slots : List ℕ) (n s bits : ℕ) : Type 0 where
   pub isSlot : s < 196608
   pub turns : ℕ
-  pub passes : Passes turns ms slots n
+  pub wentOn : Passes turns ms slots n
   pub slotIs : slotAfter turns slots n ≡ s
   pub bitsAre : bitsAfter turns n ≡ bits
 
 pub look-starts : (ms slots : List ℕ) (n : ℕ) → Coming ms slots n (n % 65536) (n / 65536)
-look-starts ms slots n = record { isSlot = omega arith; turns = 0; passes = tt; slotIs = refl; bitsAre = refl }
+look-starts ms slots n = record { isSlot = omega arith; turns = 0; wentOn = tt; slotIs = refl; bitsAre = refl }
 
 pub look-on : {ms slots : List ℕ} {k n s bits : ℕ} → SlotsHold ms slots k → Coming ms slots n s bits → GoesOn ms slots n s
     → Coming ms slots n (slotBehind (getD slots s 0) bits) (bits / 2)
 look-on {s = s} h c g = record {
   isSlot = omega (arith, h .places s, h .few);
   turns = suc (c .turns);
-  passes = (c .passes, rw (c .slotIs) g);
+  wentOn = (c .wentOn, rw (c .slotIs) g);
   slotIs = rw (c .slotIs, c .bitsAre);
   bitsAre = rw (c .bitsAre);
 }

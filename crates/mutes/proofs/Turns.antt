@@ -57,11 +57,11 @@ module _ {ms slots : List ℕ} {k : ℕ} (h : SlotsHold ms slots k) where
   not-met : (n : ℕ) → Passes 18 ms slots n → ⊥
   not-met n p =
       let q = met 17 n (p .0) (p .1 .0) .0 in
-      q .1 .1 (alike-same _ _ (h .numbers _) (h .numbers _) (met 16 _ (q .0) (q .1 .0) .1))
+      q .1 .1 (alike-same _ _ (h .of32Bits _) (h .of32Bits _) (met 16 _ (q .0) (q .1 .0) .1))
 
   within-17 : (t n : ℕ) → Passes t ms slots n → t ≤ 17
   within-17 t n p = ⊎-elim (λ l. absurd (not-met n (passes-fewer ms slots n t 18 l p))) (λ h. h) (less-or-not 17 t)
 
   pub look-ends : {n s bits : ℕ} → Coming ms slots n s bits → (0 < getD slots s 0 → n ≡ atPlace ms (getD slots s 0)) → LookEnds ms slots n s
   look-ends {n} c f =
-      record { isSlot = c .isSlot; turns = c .turns; soon = within-17 (c .turns) n (c .passes); passes = c .passes; here = c .slotIs; has = f }
+      record { isSlot = c .isSlot; turns = c .turns; soon = within-17 (c .turns) n (c .wentOn); passes = c .wentOn; here = c .slotIs; has = f }

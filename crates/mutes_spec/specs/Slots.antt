@@ -54,7 +54,7 @@ pub record SlotsHold (ms slots : List ℕ) (k : ℕ) : Type 0 where
   pub allSlots : length slots ≡ 196608
   pub few : k ≤ 65535
   pub onList : k ≤ length ms
-  pub numbers : (i : ℕ) → getD ms i 0 < 4294967296
+  pub of32Bits : (i : ℕ) → getD ms i 0 < 4294967296
   pub places : (s : ℕ) → getD slots s 0 ≤ k
   -- a look only goes forward, and so it ends
   pub forward : (s : ℕ) → 0 < getD slots s 0 → s < slotBehind (getD slots s 0) 0
