@@ -22,6 +22,7 @@ pub fn measure_all() {
     measure_last_bits();
     measure_grids();
     measure_steps();
+    measure_chains();
     measure_past_the_room();
 }
 
@@ -62,12 +63,14 @@ fn measure_updates(size: usize) {
     let others = different(&mut Random::new(33), 100_000, &made.numbers);
     let alike = made.numbers.iter().flat_map(|number| (1..=2184).map(move |i| number ^ i << 16));
     let alike: Vec<u32> = alike.collect();
+    let chains: Vec<u32> = made.numbers.iter().flat_map(|number| before(*number)).collect();
     let with = |others: &[u32]| shuffled([&short, others].concat());
     measure(vec![
         Line::new("updates", &made, short.clone(), 3),
         Line::new("updates", &made, with(&others[..10_000 - 3]), 3),
         Line::new("updates", &made, with(&others[..100_000 - 3]), 3),
         Line::new("updates, alike in 16 bits with peers", &made, with(&alike), 3),
+        Line::new("updates, a chain before each peer", &made, [&chains[..], &short].concat(), 3),
         Line::new("updates", &made, Vec::new(), 0),
     ]);
 }
@@ -104,6 +107,21 @@ fn measure_steps() {
     let steps: Vec<u32> = steps.collect();
     measure_hostile("steps of powers of two", &steps[..FULL], steps[..FULL].to_vec(), FULL);
     measure_halves("steps of powers of two", &steps);
+}
+
+/// Sixteen numbers, each alike to this one in a bit more, from the 17th last on. Whoever goes by one
+/// bit after the other passes all of them before it comes to this one.
+fn before(number: u32) -> impl Iterator<Item = u32> {
+    (16..32).map(move |bit| number ^ 1 << bit)
+}
+
+/// As many chains as the list of a full table has room for, and all peers the last of one.
+fn measure_chains() {
+    let mut random = Random::new(37);
+    let lasts = (0..FULL as u32 / 17).map(|last| (random.next() as u32) << 16 | last);
+    let lasts: Vec<u32> = lasts.collect();
+    let list: Vec<u32> = lasts.iter().flat_map(|last| before(*last).chain([*last])).collect();
+    measure_hostile("the last of chains", &lasts, list, FULL);
 }
 
 /// A list of twice as many numbers as a table can have peers; what a room for so many leaves out
