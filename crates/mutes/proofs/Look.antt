@@ -1,4 +1,4 @@
--- A look for a number: what it passes, where it stops, and that it stays where numbers are put.
+-- A look for a number: what it passes, where it stops, and that it goes the same way when more numbers are put.
 use mathlib.Core.Path.{_≡_, refl, sym, ap, _∙_}
 use mathlib.Core.Bool.{Bool, true, false}
 use mathlib.Core.Logic.{_⊎_, inl, inr, ⊎-elim}
@@ -41,12 +41,12 @@ module _ (ms slots : List ℕ) (n : ℕ) where
   stops-at-one (t, p, e) (u, q, f) a b =
       sym e ∙ ap (λ (i : ℕ). slotAfter i slots n) (one-stop t u p q (λ g. a (rw e at g)) (λ g. b (rw f at g))) ∙ f
 
--- ---- what is in a slot stays there
+-- ---- where what is in a slot stays there
 
 abbrev pub Keeps : (slots more : List ℕ) → Type 0
 Keeps slots more = (s : ℕ) → 0 < getD slots s 0 → getD more s 0 ≡ getD slots s 0
 
--- then looks go on as they did
+-- looks go on as they did
 look-kept : (t : ℕ) (ms slots more : List ℕ) (n : ℕ) → Keeps slots more → Passes t ms slots n → Passes t ms more n × (slotAfter t more n ≡ slotAfter t slots n)
 look-kept zero ms slots more n k p = (p, refl)
 look-kept (suc t) ms slots more n k p =

@@ -17,7 +17,7 @@ fn held_of(count: usize) -> usize
     65535
 }
 
-// The slot where a look for a number ends: an empty one, or the one that has it.
+// The slot where a look for a number ends, after 17 turns at most: an empty one, or the one that has it.
 fn look_for(number: u64, mutes: &[u32], slots: &Slots) -> usize
     requires { ⌜ SlotsHoldSome (now mutes) (now slots) ⌝ }
     ensures { λ r. ⌜ LookEnds (now (mutes .entry)) (now (slots .entry)) number r ⌝ }
