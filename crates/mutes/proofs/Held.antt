@@ -10,10 +10,10 @@ use lib.Seq.{getD-set-same, getD-set-other}
 use lib.Dec.{eqb}
 use borrow.Author.Tests.{eqb-true, eqb-false}
 use Rattle.cut_spec.specs.Cut.{mem}
-use Rattle.mutes_spec.specs.Slots.{atPlace, slotBehind, Comes, Has, emptySlots, SlotsHold}
+use Rattle.mutes_spec.specs.Slots.{atPlace, Comes, Has, emptySlots, SlotsHold}
 use Rattle.mutes.specs.LookEnds.{LookEnds}
 use Rattle.mutes.proofs.Members.{mem-parts, mem-at, mem-next}
-use Rattle.mutes.proofs.Look.{is-or-is-not, less-or-not, stops-at-one, Keeps, comes-kept, comes-before-next}
+use Rattle.mutes.proofs.Look.{is-or-is-not, less-or-not, stops-at-one, Keeps, comes-kept}
 
 empty-long : length emptySlots ≡ 196608
 empty-long = length-replicate {A = ℕ} 196608 0
@@ -30,7 +30,6 @@ holds-none ms slots numbers e = rw e (record {
   onList = omega arith;
   of32Bits = numbers;
   places = λ s. omega (arith, slot-empty s);
-  forward = λ s h. absurd (omega (arith, slot-empty s, h));
   inPlace = λ s h. absurd (omega (arith, slot-empty s, h));
   allHeld = λ n m. absurd (false≢true m);
 })
@@ -56,7 +55,6 @@ module _ {ms slots : List ℕ} {k : ℕ} (h : SlotsHold ms slots k) where
       onList = omega arith;
       of32Bits = h .of32Bits;
       places = λ s. omega (arith, h .places s);
-      forward = h .forward;
       inPlace = h .inPlace;
       allHeld = all-there slots (λ s z. refl) (t, ends .has t);
     }
@@ -86,9 +84,6 @@ module _ {ms slots : List ℕ} {k : ℕ} (h : SlotsHold ms slots k) where
         onList = omega arith;
         of32Bits = h .of32Bits;
         places = each (λ s. getD (set slots e (k + 1)) s 0 ≤ k + 1) (omega (arith, at-end)) (λ s q. omega (arith, elsewhere s q, h .places s));
-        forward = each (λ s. 0 < getD (set slots e (k + 1)) s 0 → s < slotBehind (getD (set slots e (k + 1)) s 0) 0)
-            (λ t. rw at-end (comes-before-next h (comes ends)))
-            (λ s q. rw (elsewhere s q) (h .forward s));
         inPlace = each (λ s. 0 < getD (set slots e (k + 1)) s 0 → Comes ms (set slots e (k + 1)) (atPlace ms (getD (set slots e (k + 1)) s 0)) s)
             (λ t. subst (λ (n : ℕ). Comes ms (set slots e (k + 1)) n e) named (comes-kept keeps (comes ends)))
             (λ s q t. subst⁻¹ (λ (p : ℕ). Comes ms (set slots e (k + 1)) (atPlace ms p) s) (elsewhere s q) (comes-kept keeps (h .inPlace s (omega (arith, elsewhere s q, t)))));

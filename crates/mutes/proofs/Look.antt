@@ -3,7 +3,7 @@ use mathlib.Core.Path.{_≡_, refl, sym, ap, _∙_}
 use mathlib.Core.Bool.{Bool, true, false}
 use mathlib.Core.Logic.{_⊎_, inl, inr, ⊎-elim}
 use mathlib.Core.List.{List}
-use Prim.Native.Nat.{ℕ, zero, suc, _+_, _/_, _%_, _≤_, _<_}
+use Prim.Native.Nat.{ℕ, zero, suc, _/_, _%_, _≤_, _<_}
 use native.Mathlib.Nat.{eq-or-lt-of-le}
 use native.Mathlib.Omega.{arith}
 use lib.ListN.{getD}
@@ -57,15 +57,6 @@ look-kept (suc t) ms slots more n k p =
 pub comes-kept : {ms slots more : List ℕ} {n s : ℕ} → Keeps slots more → Comes ms slots n s → Comes ms more n s
 comes-kept {ms} {slots} {more} {n} k (t, p, e) = let q = look-kept t ms slots more n k p in (t, q .0, q .1 ∙ e)
 
-module _ {ms slots : List ℕ} {k : ℕ} (h : SlotsHold ms slots k) where
-  -- it is before the slots of a place that is not held yet
-  before-next : (t n : ℕ) → slotAfter t slots n < slotBehind (k + 1) 0
-  before-next zero n = omega arith
-  before-next (suc t) n = omega (arith, h .places (slotAfter t slots n))
-
-  pub comes-before-next : {n s : ℕ} → Comes ms slots n s → s < slotBehind (k + 1) 0
-  comes-before-next {n} (t, p, e) = rw e at (before-next t n)
-
 -- ---- a look as a loop has it: come to the slot s, with these bits left
 
 pub record Coming (ms slots : List ℕ) (n s bits : ℕ) : Type 0 where
@@ -78,7 +69,7 @@ pub record Coming (ms slots : List ℕ) (n s bits : ℕ) : Type 0 where
 pub look-starts : (ms slots : List ℕ) (n : ℕ) → Coming ms slots n (n % 65536) (n / 65536)
 look-starts ms slots n = record { isSlot = omega arith; turns = 0; wentOn = tt; slotIs = refl; bitsAre = refl }
 
-pub look-on : {ms slots : List ℕ} {k n s bits : ℕ} → SlotsHold ms slots k → Coming ms slots n s bits → GoesOn ms slots n s
+abbrev pub look-on : {ms slots : List ℕ} {k n s bits : ℕ} → SlotsHold ms slots k → Coming ms slots n s bits → GoesOn ms slots n s
     → Coming ms slots n (slotBehind (getD slots s 0) bits) (bits / 2)
 look-on {s = s} h c g = record {
   isSlot = omega (arith, h .places s, h .few);

@@ -56,8 +56,6 @@ pub record SlotsHold (ms slots : List ℕ) (k : ℕ) : Type 0 where
   pub onList : k ≤ length ms
   pub of32Bits : (i : ℕ) → getD ms i 0 < 4294967296
   pub places : (s : ℕ) → getD slots s 0 ≤ k
-  -- a look only goes forward, and so it ends
-  pub forward : (s : ℕ) → 0 < getD slots s 0 → s < slotBehind (getD slots s 0) 0
   -- a number stands where a look for it comes
   pub inPlace : (s : ℕ) → 0 < getD slots s 0 → Comes ms slots (atPlace ms (getD slots s 0)) s
   pub allHeld : (n : ℕ) → mem n (take k ms) ≡ true → (s : ℕ) × Has ms slots n s

@@ -1,11 +1,11 @@
--- `mutes::look_for` meets its contract: each turn goes forward, so that a look ends.
+-- `mutes::look_for` meets its contract: 17 turns are left at most, and one less after each.
 use Prim.Native.Nat.{_-_, _≤_, _<_}
 use native.Mathlib.Omega.{arith}
 use lib.ListN.{length, getD}
 use denote.Ref.{now}
 use borrow.Author.Needs.{needs}
 use Rattle.mutes.proofs.Look.{Coming, look-starts, look-on}
-use Rattle.mutes.proofs.Turns.{look-ends}
+use Rattle.mutes.proofs.Turns.{turnsLeft, turn-less, look-ends}
 use Rattle.mutes.proofs.look_for.Statement.{statement}
 use Rattle.mutes.proofs.look_for.Tie as tie
 
@@ -13,7 +13,7 @@ abbrev Inv-loop : tie.InvT-loop
 Inv-loop number mutes slots slot₀ bits₀ slot bits = Coming mutes slots number slot bits
 
 abbrev μ-loop : tie.MeasureT-loop
-μ-loop number mutes slots slot₀ bits₀ slot bits = 196608 - slot
+μ-loop number mutes slots slot₀ bits₀ slot bits = turnsLeft 17 mutes slots number slot bits
 
 loop-holds : tie.Need-loop-holds Inv-loop μ-loop
 loop-holds c = look-starts _ _ _
@@ -78,8 +78,7 @@ add-slot-2 c = omega (arith, few (at (c .before .before)))
 loop-less : tie.Need-loop-less Inv-loop μ-loop
 loop-less c =
     let k = c .before .before in
-    let l = at k in
-    omega (arith, start l .pre .1 .forward (l .loop .slot) (taken (k .before)), l .loop .inv .isSlot)
+    turn-less (start (at k) .pre .1) (at k .loop .inv) (taken (k .before), c .if2 .left)
 
 loop-again : tie.Need-loop-again Inv-loop μ-loop
 loop-again c =
