@@ -59,6 +59,14 @@ pub extern "C" fn dagsumilat_check(dump: &[u8], answer: &mut [u64; 3])
     answer[2] = records;
 }
 
+// The same, and where the faulty record starts, or the dump's length.
+#[no_mangle]
+pub extern "C" fn dagsumilat_first_fault(dump: &[u8], answer: &mut [u64; 4])
+    ensures { λ _. ⌜ now (answer .exit) ≡ words.faultWords (now (answer .entry)) (walked longestMessage (now (dump .entry))) ⌝ }
+{
+    dagsumilat_fault::first_fault(dump, answer);
+}
+
 // What is left of a dump inside a window, without the peers whose AS is on the list.
 #[no_mangle]
 pub extern "C" fn dagsumilat_cut(

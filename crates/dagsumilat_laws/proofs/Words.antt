@@ -1,4 +1,4 @@
--- What the words of a record mean: they are all of the array, whatever it held before, and a refusal tells nothing but its number.
+-- What the words of a record mean: they are all of the array, whatever it held before, and a refusal tells nothing but its number and place.
 use mathlib.Core.Path.{_≡_, refl, sym, ap, _∙_}
 use mathlib.Core.List.{List, [], _∷_, _++_, append-assoc}
 use native.Mathlib.Omega.{arith}
@@ -41,6 +41,6 @@ twenty (Good h (Message s b)) = refl
 pub all-words : (a : List ℕ) (x : Shown) → length a ≡ 20 → readWords a x ≡ headWords x ++ bodyWords x
 all-words a x e = laid a [] (headWords x ++ bodyWords x) (e ∙ sym (twenty x))
 
--- a refusal: its number, and zeros
-pub refused-words : (a : List ℕ) (n p : ℕ) → readWords a (Refused n p) ≡ words a (n ∷ replicate 19 0)
+-- a refusal: its number, its place, and zeros
+pub refused-words : (a : List ℕ) (n p : ℕ) → readWords a (Refused n p) ≡ words a (n ∷ p ∷ replicate 18 0)
 refused-words a n p = refl

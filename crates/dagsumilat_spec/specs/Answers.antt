@@ -24,6 +24,10 @@ words a ws = wordsFrom 0 a ws
 abbrev pub checkWords : (array : List ℕ) → Walked → List ℕ
 checkWords a w = words a (w .fault ∷ w .place ∷ w .records ∷ [])
 
+-- fault, place, records, where the faulty record starts
+abbrev pub faultWords : (array : List ℕ) → Walked → List ℕ
+faultWords a w = words a (w .fault ∷ w .place ∷ w .records ∷ w .start ∷ [])
+
 -- fault, place
 abbrev pub reportWords : (array : List ℕ) → Added → List ℕ
 reportWords a w = words a (w .fault ∷ w .place ∷ [])

@@ -12,7 +12,7 @@ use Rattle.form_spec.specs.Fmt.{Out, bad, good, Fits}
 use Rattle.form_spec.specs.Body.{Body, plain, BodyFits}
 use Rattle.form_spec.specs.Shape.{Layout, refuse, fields, unread, table, entries, St, noTable, withPeers, plan, after}
 use Rattle.form_spec.specs.Record.{Rec, write, size, readRec, Valid, layoutOf, next}
-use Rattle.form_spec.specs.Dump.{Walk, placed, stop, before, step, writes, walk, walkFrom, walkAll, Valids, Splits, nexts}
+use Rattle.form_spec.specs.Dump.{Walk, stop, before, step, writes, walk, walkFrom, walkAll, Valids, Splits, nexts}
 use Rattle.form_laws.proofs.Octets.{octets-right, octets-drop}
 use Rattle.form_laws.proofs.Fmt.{Right}
 use Rattle.form_laws.proofs.Record.{sound-rec, complete-rec, length-write}
@@ -54,7 +54,7 @@ after-below (table f g) b st su h = inr refl
 after-below (entries f g) b st su h = h
 
 module _ (layout : ℕ → ℕ → Layout) where
-  walk-step : (n : ℕ) (st : St) (at : ℕ) (d : List ℕ) → 0 < length d → walk layout (suc n) st at d ≡ step at (λ r q. walk layout n (next layout r st) (at + size r) q) (readRec layout st at d)
+  walk-step : (n : ℕ) (st : St) (at : ℕ) (d : List ℕ) → 0 < length d → walk layout (suc n) st at d ≡ step (λ r q. walk layout n (next layout r st) (at + size r) q) (readRec layout st at d)
   unfolding walk
   walk-step n st at [] h = absurd (omega arith)
   walk-step n st at (x ∷ xs) h = refl
@@ -76,7 +76,7 @@ module _ (layout : ℕ → ℕ → Layout) where
     pub accepted : w .fault ≡ 0 → Valids layout st (w .recs) × (writes (w .recs) ≡ d) × (w .place ≡ at + length d)
 
   right-step : (k : Rec → List ℕ → Walk) (st : St) (at : ℕ) (d : List ℕ) (o : Out Rec) → Right (Valid layout st) write d o
-      → ((r : Rec) (q : List ℕ) → write r ++ q ≡ d → RightWalk (next layout r st) (at + size r) q (k r q)) → RightWalk st at d (step at k o)
+      → ((r : Rec) (q : List ℕ) → write r ++ q ≡ d → RightWalk (next layout r st) (at + size r) q (k r q)) → RightWalk st at d (step k o)
   right-step k st at d (bad n p) h ih = record { accepted = λ z. absurd (h z) }
   right-step k st at d (good r q) h ih =
       record {
@@ -97,7 +97,7 @@ module _ (layout : ℕ → ℕ → Layout) where
 
   -- the fuel does not matter
   step-same : (j k : Rec → List ℕ → Walk) (st : St) (at : ℕ) (d : List ℕ) (o : Out Rec) → Right (Valid layout st) write d o
-      → ((r : Rec) (q : List ℕ) → write r ++ q ≡ d → j r q ≡ k r q) → step at j o ≡ step at k o
+      → ((r : Rec) (q : List ℕ) → write r ++ q ≡ d → j r q ≡ k r q) → step j o ≡ step k o
   step-same j k st at d (bad n p) h e = refl
   step-same j k st at d (good r q) h e = ap (before r) (e r q (h .1))
 
@@ -115,7 +115,7 @@ module _ (layout : ℕ → ℕ → Layout) where
 
   -- how the walk layout goes on: what a loop's invariant uses
   pub walk-on : (st : St) (at : ℕ) (d : List ℕ) → Octets d → 0 < length d
-      → walkFrom layout st at d ≡ step at (λ r q. walkFrom layout (next layout r st) (at + size r) q) (readRec layout st at d)
+      → walkFrom layout st at d ≡ step (λ r q. walkFrom layout (next layout r st) (at + size r) q) (readRec layout st at d)
   unfolding walkFrom walk
   walk-on st at [] oc h = absurd (omega arith)
   walk-on st at (x ∷ xs) oc h =
@@ -164,7 +164,7 @@ module _ (layout : ℕ → ℕ → Layout) where
   walk-end st d = rw drop-length
 
   pub walk-bad : (st : St) (at : ℕ) (d : List ℕ) (n p : ℕ) → Octets d → at < length d → readRec layout st at (drop at d) ≡ bad n p
-      → walkFrom layout st at (drop at d) ≡ stop n (placed at p)
+      → walkFrom layout st at (drop at d) ≡ stop n p
   walk-bad st at d n p oc h e = rw (walk-on st at (drop at d) (octets-drop at d oc) (rw length-drop (omega arith)), e)
 
   -- what a record leaves of the dump

@@ -18,13 +18,10 @@ stop n p = record { fault = n; place = p; recs = [] }
 abbrev pub before : Rec → Walk → Walk
 before r w = record { fault = w .fault; place = w .place; recs = r ∷ (w .recs) }
 
--- a fault's place, where its record stands at offset at and its field at offset p
-abbrev pub placed : (at p : ℕ) → ℕ
-placed at p = at
-
-abbrev pub step : ℕ → (Rec → List ℕ → Walk) → Out Rec → Walk
-step at k (bad n p) = stop n (placed at p)
-step at k (good r d) = before r (k r d)
+-- a fault is placed at the first octet of the field that failed
+abbrev pub step : (Rec → List ℕ → Walk) → Out Rec → Walk
+step k (bad n p) = stop n p
+step k (good r d) = before r (k r d)
 
 abbrev pub writes : List Rec → List ℕ
 writes [] = []
@@ -35,7 +32,7 @@ module _ (layout : ℕ → ℕ → Layout) where
   unfoldable pub walk : ℕ → St → ℕ → List ℕ → Walk
   walk zero st at d = stop 0 at
   walk (suc n) st at [] = stop 0 at
-  walk (suc n) st at (x ∷ xs) = step at (λ r d. walk n (next layout r st) (at + size r) d) (readRec layout st at (x ∷ xs))
+  walk (suc n) st at (x ∷ xs) = step (λ r d. walk n (next layout r st) (at + size r) d) (readRec layout st at (x ∷ xs))
 
   unfoldable pub walkFrom : St → ℕ → List ℕ → Walk
   walkFrom st at d = walk (length d) st at d

@@ -34,7 +34,7 @@ pub fn place(r: Shown) -> usize
 {
     match r {
         Shown::Nothing => 0,
-        Shown::Refused(_, _) => 0,
+        Shown::Refused(_, p) => p,
         Shown::Good(h, _) => end(h),
     }
 }

@@ -3,7 +3,6 @@ use mathlib.Core.List.{List}
 use denote.Ref.{RefT}
 use Prim.Native.Nat.{ℕ, _+_, _*_}
 use lib.ListN.{take, drop}
-use Rattle.form_spec.specs.Dump.{placed}
 use Rattle.octets_spec.specs.Lent.{PartOf}
 use Rattle.record_spec.specs.declared.Part.{Part}
 use Rattle.record_spec.specs.declared.Header.{Header}
@@ -41,10 +40,10 @@ headerOf (Good h b) = h
 abbrev pub end : Header → ℕ
 end h = 12 + h .length
 
--- a fault's place, where the record starts at 0
+-- a fault's place is the first octet of the field that failed, counted from the record's header
 abbrev pub place : Shown → ℕ
 place Nothing = 0
-place (Refused n p) = placed 0 p
+place (Refused n p) = p
 place (Good h b) = end h
 
 -- in microseconds

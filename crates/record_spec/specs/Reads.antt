@@ -6,7 +6,6 @@ use Prim.Native.Nat.{ℕ}
 use Rattle.form_spec.specs.Fmt.{Out, bad, good}
 use Rattle.form_spec.specs.Found.{faultNumber}
 use Rattle.form_spec.specs.Record.{Rec, size, readRec}
-use Rattle.form_spec.specs.Dump.{placed}
 use Rattle.page_spec.specs.Layout.{layout}
 use Rattle.record_spec.specs.declared.Table.{Table}
 use Rattle.record_spec.specs.declared.Shown.{Shown}
@@ -15,7 +14,7 @@ use Rattle.record_spec.specs.Answer.{fault, place}
 use Rattle.record_spec.specs.Table.{stateOf}
 
 abbrev pub placeIn : Out Rec → ℕ
-placeIn (bad n p) = placed 0 p
+placeIn (bad n p) = p
 placeIn (good r q) = size r
 
 module _ (longest : ℕ) (t : Table) where

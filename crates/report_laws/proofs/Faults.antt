@@ -17,16 +17,16 @@ use Rattle.record_laws.proofs.Faults.{found-record}
 abbrev pub OfDump : ℕ → Type 0
 OfDump n = (n ≤ 13) ⊎ (n ≡ 17)
 
-found-step : (at : ℕ) (k : Rec → List ℕ → Walk) (o : Out Rec) → OfDump (faultNumber o) → ((r : Rec) (d : List ℕ) → OfDump ((k r d) .fault)) → OfDump ((step at k o) .fault)
-found-step at k (bad n p) h g = h
-found-step at k (good r d) h g = g r d
+found-step : (k : Rec → List ℕ → Walk) (o : Out Rec) → OfDump (faultNumber o) → ((r : Rec) (d : List ℕ) → OfDump ((k r d) .fault)) → OfDump ((step k o) .fault)
+found-step k (bad n p) h g = h
+found-step k (good r d) h g = g r d
 
 found-walk : (longest n : ℕ) (st : St) (at : ℕ) (d : List ℕ) → OfDump ((walk (layout longest) n st at d) .fault)
 unfolding walk
 found-walk longest zero st at d = inl (omega arith)
 found-walk longest (suc n) st at [] = inl (omega arith)
 found-walk longest (suc n) st at (x ∷ xs) =
-    found-step at _ (readRec (layout longest) st at (x ∷ xs)) (found-record OfDump (λ k h. inl h) longest st at (x ∷ xs) (λ w e. inr refl)) (λ r d. found-walk longest n (next (layout longest) r st) (at + size r) d)
+    found-step _ (readRec (layout longest) st at (x ∷ xs)) (found-record OfDump (λ k h. inl h) longest st at (x ∷ xs) (λ w e. inr refl)) (λ r d. found-walk longest n (next (layout longest) r st) (at + size r) d)
 
 faults : (longest : ℕ) (d : List ℕ) → OfDump ((walkAll (layout longest) d) .fault)
 unfolding walkAll walkFrom

@@ -2,9 +2,9 @@
 use mathlib.Core.Bool.{Bool, cond}
 use mathlib.Core.List.{List, [], map}
 use Prim.Native.Nat.{ℕ, _+_, _-_}
-use lib.ListN.{getD, set}
+use lib.ListN.{length, getD, set}
 use Rattle.form_spec.specs.Record.{Rec}
-use Rattle.form_spec.specs.Dump.{Walk, walkAll}
+use Rattle.form_spec.specs.Dump.{Walk, writes, walkAll}
 use Rattle.page_spec.specs.Layout.{layout}
 use Rattle.report_spec.specs.declared.Notice.{Notice}
 use Rattle.report_spec.specs.declared.Notice.the-variants.{Plain}
@@ -22,7 +22,7 @@ module _ (heed : Bool) (longest : ℕ) where
   heeded r = cond heed (notice longest r) Plain
 
   unfoldable pub tallyOf : Walk → Tallied
-  tallyOf w = record { fault = w .fault; place = w .place; own = own (map heeded (w .recs)) }
+  tallyOf w = record { fault = w .fault; place = w .place; start = length (writes (w .recs)); own = own (map heeded (w .recs)) }
 
   unfoldable pub tallied : (d : List ℕ) → Tallied
   tallied d = tallyOf (walkAll (layout longest) d)

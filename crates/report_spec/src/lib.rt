@@ -15,11 +15,13 @@ pub enum Last {
     Was(u16),
 }
 
-// What going through a dump answers: the first fault's number and place, or 0 and the dump's length, and the report of the records before:
-// records, state changes, breaks of type 12's sequence, and for each old state, 1 to 6, how often each new one followed it.
+// What going through a dump answers: the first fault's number and place, or 0 and the dump's length; where the faulty record starts, or the
+// dump's length; and the report of the records before: records, state changes, breaks of type 12's sequence, and for each old state, 1 to 6,
+// how often each new one followed it.
 pub struct Tallied {
     pub fault: u8,
     pub place: usize,
+    pub start: usize,
     pub own: [u64; 39],
 }
 

@@ -24,6 +24,10 @@
 --   numberAt       record_spec/specs/Reads   the number that reading gives the record that starts the octets
 --   WholeTable     record_spec/specs/Named   a whole record of Type 13, Subtype 1, starts the octets; with `Named`: its message holds all of the
 --                                            view name, which is `nameIn`
+--   FaultyDump     place_spec/specs/Faulty   a dump with a fault at a place; with `Faulty`, of one record's octets, and `ends`, where it ends
+--   Failed         place_spec/specs/Failed   a format's octets with a fault at a place: the fields before it, those there from it on, what is
+--                                            left; with `behind`, `Lacks`, `Ends` and `nameOf`, which say what the format lays out there
+--   about          place_spec/specs/About    at which field a fault is placed
 --   Own, Placed    write_spec/specs/Only, form_spec/specs/Aligned  whose a record is; each number goes into its field, each part has its size
 --   numberFor      room_spec/specs/Room      the fault, then 15
 --   listing        listing_spec/specs/Text   the text that the program prints
@@ -36,30 +40,31 @@
 --   reportsLeave   report_spec/specs/Dumps   the report behind dumps, each added in turn; with `NonePasses`: no call answers 16
 --   together       report_spec/specs/Dumps   the report and the own reports of the dumps that are accepted, summed, however large
 use mathlib.Core.Path.{_≡_, refl, sym, _∙_}
-use mathlib.Core.Logic.{_↔_}
+use mathlib.Core.Logic.{_↔_, _⊎_}
 use mathlib.Core.Bool.{true, false}
 use mathlib.Core.List.{List, [], _∷_, _++_, map, Perm}
 use Prim.Native.Nat.{ℕ, suc, _+_, _-_, _*_, _≤_, _<_, min, max}
 use lib.ListN.{length, take, drop, getD}
 use Rattle.form_spec.specs.Octets.{Octets}
-use Rattle.form_spec.specs.Fmt.{good}
+use Rattle.form_spec.specs.Fmt.{bad, good, Fmt}
 use Rattle.form_spec.specs.Body.{AllFits}
 use Rattle.form_spec.specs.Shape.{Layout, St, noTable, itemsOf}
 use Rattle.form_spec.specs.Record.{Rec, write, readRec, Valid}
-use Rattle.form_spec.specs.Dump.{Splits, walkFrom, nexts}
+use Rattle.form_spec.specs.Dump.{Splits, writes, walkFrom, nexts}
 use Rattle.form_spec.specs.Put.{Given, octets, recordRefusal}
 use Rattle.form_spec.specs.Aligned.{Placed}
 use Rattle.text_spec.specs.Text.{Text, Spelled}
 use Rattle.text_spec.specs.Grammar.{Parsed}
 use Rattle.text_spec.specs.Check.{isText}
 use Rattle.octets_spec.specs.Be.{numAt}
+use Rattle.page_spec.specs.Names.{bgpLength}
 use Rattle.page_spec.specs.Layout.{layout}
 use Rattle.page_spec.specs.Rib.{entry}
 use Rattle.page_spec.specs.declared.Kind.{Kind}
 use Rattle.page_spec.specs.declared.Kind.the-variants as chosen
 use Rattle.record_spec.specs.declared.Table.{Table}
 use Rattle.record_spec.specs.declared.Shown.{Shown}
-use Rattle.record_spec.specs.declared.Shown.the-variants.{Nothing, Good}
+use Rattle.record_spec.specs.declared.Shown.the-variants.{Nothing, Refused, Good}
 use Rattle.record_spec.specs.declared.Header.{Header}
 use Rattle.record_spec.specs.declared.Peers.{Peers}
 use Rattle.record_spec.specs.declared.Peer.{Peer}
@@ -84,6 +89,9 @@ use Rattle.record_spec.specs.Agrees.{Agrees, Same, writerOf}
 use Rattle.record_spec.specs.Again.{again}
 use Rattle.record_laws.proofs.Written.{Fair}
 use Rattle.record_spec.specs.Named.{WholeTable, Named, nameIn}
+use Rattle.place_spec.specs.Failed.{behind, Lacks, Ends, nameOf, Failed}
+use Rattle.place_spec.specs.About.{about}
+use Rattle.place_spec.specs.Faulty.{ends, Faulty, FaultyDump}
 use Rattle.walk_spec.specs.Walked.{walked}
 use Rattle.walk_spec.specs.Steps.{stepAt}
 use Rattle.walk_spec.specs.Answer.{Steps}
@@ -115,6 +123,9 @@ use Rattle.record_laws.proofs.Item as item
 use Rattle.record_laws.proofs.Items as items
 use Rattle.record_laws.proofs.Names as names
 use Rattle.record_laws.proofs.AsReader as as-reader
+use Rattle.place_laws.proofs.About as about-places
+use Rattle.place_laws.proofs.Record as record-places
+use Rattle.place_laws.proofs.Dump as dump-places
 use Rattle.walk_laws.proofs.Demand2 as dumps
 use Rattle.walk_laws.proofs.Steps as steps
 use Rattle.listing_laws.proofs.Listing as texts
@@ -159,6 +170,40 @@ module _ (longest : ℕ) where
   pub fault-has-number-and-place : (t : Table) (st : St) → Tells t st → (s : List ℕ) → Octets s → 0 < length s → Agrees longest s (readRec (layout longest) st 0 s) (readOne longest t s)
   fault-has-number-and-place t st told s o some = one.one-record longest t st told s o some
 
+  -- the place of a fault is the first octet of the field that failed. Whole records stand before the faulty one; read by itself it has the
+  -- same fault, at the dump's place less the offset where it starts; and its octets are as the fault says: those before the place are fields
+  -- that pass, the field at the place is the one that `about` names for the number, and there it fails
+  pub fault-is-at-its-field : (d : List ℕ) → Octets d → let w = walked longest d in (w .fault ≡ 0 → ⊥) → FaultyDump longest d (w .fault) (w .place) (w .start)
+  unfolding walked
+  fault-is-at-its-field d o h = dump-places.faulty-dump longest d o h
+
+  -- and so a reader that is told the table in force there refuses that record with the same number, at the place less that offset
+  pub reader-has-the-place-less-the-offset : (d : List ℕ) → Octets d → (n p start : ℕ) (h : FaultyDump longest d n p start) (t : Table) → Tells t (nexts (layout longest) (h .recs) noTable)
+      → readOne longest t (drop start d) ≡ Refused n (p - start)
+  reader-has-the-place-less-the-offset d o n p start h t told = dump-places.shown-alone longest d n p start h o t told
+
+  -- the same of one record, by its own octets
+  pub record-fault-is-at-its-field : (st : St) (s : List ℕ) → Octets s → 0 < length s → (n p : ℕ) → readRec (layout longest) st 0 s ≡ bad n p → Faulty longest st s n p
+  record-fault-is-at-its-field st s o some n p e = record-places.faulty-record longest st s o some n p e
+
+  -- the place is in the dump, and in the faulty record or where it ends
+  pub place-is-in-the-record : (d : List ℕ) (n p start : ℕ) (h : FaultyDump longest d n p start)
+      → (start ≤ p) × (p ≤ length d) × (start + ends (h .rest) ≤ length d → p ≤ start + ends (h .rest))
+  place-is-in-the-record d n p start h = dump-places.place-in-dump longest d n p start h
+
+  -- what stands before the faulty record is a dump that is accepted
+  pub accepted-before-the-fault : (d : List ℕ) → Octets d → (n p start : ℕ) → FaultyDump longest d n p start → walked longest (take start d) .fault ≡ 0
+  accepted-before-the-fault d o n p start h = dumps.accepted-before longest d o n p start h
+
+-- 5: a field starts at the place, and the message ends before it is complete; or the field is a BGP length
+pub five-lacks-octets : (f : Fmt) (m : List ℕ) (p : ℕ) (h : Failed about f m 5 p) → ((h .there ≡ []) × Lacks (behind f (h .before)) (h .rest)) ⊎ (nameOf (behind f (h .before)) ≡ bgpLength)
+five-lacks-octets f m p h = about-places.incomplete f m p h
+
+-- 6: all fields end at the place, and octets are left; or the field is a BGP length
+pub six-leaves-octets : (f : Fmt) (m : List ℕ) (p : ℕ) (h : Failed about f m 6 p)
+    → ((h .there ≡ []) × Ends (behind f (h .before)) × (0 < length (h .rest))) ⊎ (nameOf (behind f (h .before)) ≡ bgpLength)
+six-leaves-octets f m p h = about-places.left-over f m p h
+
 -- ==== Demand 2. A dump is accepted exactly when it splits into whole records, and the records are what the bytes say.
 
 -- a view name is text in UTF-8: the check passes exactly the octets that spell scalar values,
@@ -179,7 +224,7 @@ module _ (longest : ℕ) where
   accepted-exactly d o = dumps.accepts-dump longest d o
 
   -- then the answer is the dump's length and how many records it has,
-  pub accepted-answer : (d : List ℕ) (s : Splits (layout longest) d) → walked longest d ≡ record { fault = 0; place = length d; records = length (s .0) }
+  pub accepted-answer : (d : List ℕ) (s : Splits (layout longest) d) → walked longest d ≡ record { fault = 0; place = length d; start = length d; records = length (s .0) }
   accepted-answer d s = dumps.shows-dump longest d s
 
   -- and they are the only ones
@@ -189,7 +234,7 @@ module _ (longest : ℕ) where
   -- the first faulty record decides: behind an accepted dump the walk goes on where it ends, with the table that it leaves in force
   pub first-fault-decides : (a b : List ℕ) → Octets a → Octets b → (s : Splits (layout longest) a)
       → let w = walkFrom (layout longest) (nexts (layout longest) (s .0) noTable) (length a) b in
-      walked longest (a ++ b) ≡ record { fault = w .fault; place = w .place; records = length (s .0) + length (w .recs) }
+      walked longest (a ++ b) ≡ record { fault = w .fault; place = w .place; start = length a + length (writes (w .recs)); records = length (s .0) + length (w .recs) }
   first-fault-decides a b p q s = dumps.past-accepted longest a b p q s
 
   -- one record alone: no fault exactly where a well-formed one starts the octets

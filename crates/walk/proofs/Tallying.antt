@@ -8,7 +8,7 @@ use native.Mathlib.Nat.{add-zero}
 use lib.ListN.{length, getD, replicate, length-append, length-map}
 use Rattle.form_spec.specs.Octets.{Octets}
 use Rattle.form_spec.specs.Record.{Rec}
-use Rattle.form_spec.specs.Dump.{walkAll}
+use Rattle.form_spec.specs.Dump.{writes, walkAll}
 use Rattle.page_spec.specs.Layout.{layout}
 use Rattle.record_spec.specs.declared.Table.{Table}
 use Rattle.record_spec.specs.declared.Table.the-variants.{Absent}
@@ -43,11 +43,12 @@ module _ (heed : Bool) (longest : ℕ) (d : List ℕ) where
 
   -- the walk stops with fault n at p
   pub stops : (at : ℕ) (t : Table) (r c b : ℕ) (l : last.Last) (table : List (List ℕ)) (k : Tallying heed longest d at t r c b l table) (n p : ℕ) (x : Tallied)
-      → walkAll (layout longest) d ≡ record { fault = n; place = p; recs = k .recs } → x .fault ≡ n → x .place ≡ p → x .own ≡ numbers r c b table → x ≡ tallied heed longest d
+      → walkAll (layout longest) d ≡ record { fault = n; place = p; recs = k .recs } → x .fault ≡ n → x .place ≡ p → x .start ≡ at → x .own ≡ numbers r c b table → x ≡ tallied heed longest d
   unfolding tallied tallyOf own
-  stops at t r c b l table k n p x w f q o =
+  stops at t r c b l table k n p x w f q s o =
       let y : x .own ≡ own (map (heeded heed longest) (k .recs)) = rw (← (k .noticed)) (o ∙ rw (k .numbered, k .changes, k .breaks, k .cells)) in
-      let z : x ≡ record { fault = n; place = p; own = own (map (heeded heed longest) (k .recs)) } = rw (← f, ← q, ← y) in
+      let i : x .start ≡ length (writes (k .recs)) = s ∙ sym (k .ahead .ended) in
+      let z : x ≡ record { fault = n; place = p; start = length (writes (k .recs)); own = own (map (heeded heed longest) (k .recs)) } = rw (← f, ← q, ← i, ← y) in
       z ∙ rw w
 
   -- ---- one record further
@@ -83,6 +84,6 @@ module _ (heed : Bool) (longest : ℕ) (d : List ℕ) where
 -- the walk's answer is a part of it: the first number counts the records, heeded or not
 pub walked-tallied : (heed : Bool) (longest : ℕ) (d : List ℕ)
     → let k = tallied heed longest d in
-    _≡_ {A = Walked} (record { fault = k .fault; place = k .place; records = getD (k .own) 0 0 }) (walked longest d)
+    _≡_ {A = Walked} (record { fault = k .fault; place = k .place; start = k .start; records = getD (k .own) 0 0 }) (walked longest d)
 unfolding tallied tallyOf own walked
 walked-tallied heed longest d = rw (length-map (walkAll (layout longest) d .recs) (heeded heed longest))

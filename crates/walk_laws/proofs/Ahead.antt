@@ -7,7 +7,9 @@ use lib.ListN.{length, drop, length-append}
 use Rattle.form_spec.specs.Octets.{Octets}
 use Rattle.form_spec.specs.Shape.{St, noTable}
 use Rattle.form_spec.specs.Record.{Rec, Valid, next}
-use Rattle.form_spec.specs.Dump.{Walk, stop, walkFrom, walkAll}
+use Rattle.form_spec.specs.Dump.{Walk, stop, writes, walkFrom, walkAll}
+use Rattle.form_laws.proofs.Record.{length-write}
+use Rattle.form_laws.proofs.Dump.{writes-append}
 use Rattle.page_spec.specs.Layout.{layout}
 use Rattle.record_spec.specs.declared.Table.{Table}
 use Rattle.record_spec.specs.declared.Table.the-variants.{Absent}
@@ -21,10 +23,11 @@ use Rattle.walk_spec.specs.declared.Step.the-variants.{End, Fault, Record}
 use Rattle.walk_laws.proofs.Answers.{before-end}
 use Rattle.walk_laws.proofs.Goes.{goes-to, shown-past}
 
--- at offset at, behind the records rs, where the table t is told
+-- at offset at, where the records rs end and the table t is told
 pub record Ahead (longest : ℕ) (d : List ℕ) (at : ℕ) (t : Table) (rs : List Rec) : Type 0 where
   pub bound : at ≤ length d
   pub few : length rs ≤ at
+  pub ended : length (writes rs) ≡ at
   pub st : St
   pub tells : Tells t st
   pub whole : walkAll (layout longest) d ≡ befores rs (walkFrom (layout longest) st at (drop at d))
@@ -32,7 +35,7 @@ pub record Ahead (longest : ℕ) (d : List ℕ) (at : ℕ) (t : Table) (rs : Lis
 module _ (longest : ℕ) (d : List ℕ) where
   pub ahead-all : Ahead longest d 0 Absent []
   unfolding walkAll
-  ahead-all = record { bound = omega arith; few = omega arith; st = noTable; tells = tt; whole = refl }
+  ahead-all = record { bound = omega arith; few = omega arith; ended = refl; st = noTable; tells = tt; whole = refl }
 
   -- the walk stops here
   stops : (n p : ℕ) (rs : List Rec) (w : Walk) → walkAll (layout longest) d ≡ befores rs w → w ≡ stop n p → walkAll (layout longest) d ≡ record { fault = n; place = p; recs = rs }
@@ -66,6 +69,7 @@ module _ (longest : ℕ) (d : List ℕ) where
           ahead = record {
             bound = g .inside;
             few = rw length-append (omega arith);
+            ended = rw (writes-append, length-append, length-append, length-write) (omega (arith, a .ended, g .ends));
             st = next (layout longest) (g .rec) (a .st);
             tells = g .tells;
             whole = a .whole ∙ rw (g .walk, append-assoc);

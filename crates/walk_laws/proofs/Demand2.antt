@@ -5,15 +5,17 @@ use mathlib.Core.List.{List, [], _∷_, _++_, append-assoc}
 use Prim.Native.Nat.{ℕ, _+_}
 use native.Mathlib.Omega.{arith}
 use native.Mathlib.Nat.{add-zero, zero-add}
-use lib.ListN.{length, length-append}
+use lib.ListN.{length, take, length-append}
 use Rattle.form_spec.specs.Octets.{Octets}
 use Rattle.form_spec.specs.Shape.{St, noTable}
 use Rattle.form_spec.specs.Record.{Rec, write, size, next}
 use Rattle.form_spec.specs.Dump.{writes, walkFrom, walkAll, Valids, Splits, nexts}
-use Rattle.form_laws.proofs.Octets.{octets-append, octets-right}
+use Rattle.form_laws.proofs.Octets.{octets-append, octets-right, octets-take}
 use Rattle.form_laws.proofs.Record.{length-write, complete-rec}
-use Rattle.form_laws.proofs.Dump.{walk-on, accepts, shows, unique, splits-append}
+use Rattle.form_laws.proofs.Dump.{walk-on, accepts, shows, unique, splits-append, writes-append}
 use Rattle.page_spec.specs.Layout.{layout}
+use Rattle.place_spec.specs.Faulty.{FaultyDump}
+use Rattle.place_laws.proofs.Dump.{splits-before}
 use Rattle.walk_spec.specs.Walked.{befores, walkedOf, walked}
 
 module _ (longest : ℕ) where
@@ -23,20 +25,24 @@ module _ (longest : ℕ) where
   unfolding walked
   accepts-dump d oc = accepts (layout longest) d oc
 
-  -- then the place is the dump's length, and the records are those of the split
-  pub shows-dump : (d : List ℕ) (s : Splits (layout longest) d) → walked longest d ≡ record { fault = 0; place = length d; records = length (s .0) }
+  -- then the place is the dump's length, where no faulty record starts, and the records are those of the split
+  pub shows-dump : (d : List ℕ) (s : Splits (layout longest) d) → walked longest d ≡ record { fault = 0; place = length d; start = length d; records = length (s .0) }
   unfolding walked
-  shows-dump d s = ap walkedOf (shows (layout longest) d (s .0) (s .1) (s .2))
+  shows-dump d s = ap walkedOf (shows (layout longest) d (s .0) (s .1) (s .2)) ∙ rw (s .2)
 
   -- a dump splits in one way only
   pub one-split : (d : List ℕ) (s u : Splits (layout longest) d) → s .0 ≡ u .0
   one-split d s u = unique (layout longest) (s .0) (u .0) (s .1) (u .1) (s .2 ∙ sym (u .2))
 
+  -- what stands before a faulty record is accepted
+  pub accepted-before : (d : List ℕ) → Octets d → (n p start : ℕ) → FaultyDump longest d n p start → (walked longest (take start d)) .fault ≡ 0
+  accepted-before d oc n p start h = accepts-dump (take start d) (octets-take start d oc) .1 (splits-before longest d n p start h)
+
   -- ---- one dump after another
 
   -- two that have no fault have none together
   pub both-accepted : (a b : List ℕ) → Octets a → Octets b → (walked longest a) .fault ≡ 0 → (walked longest b) .fault ≡ 0
-      → walked longest (a ++ b) ≡ record { fault = 0; place = length (a ++ b); records = (walked longest a) .records + (walked longest b) .records }
+      → walked longest (a ++ b) ≡ record { fault = 0; place = length (a ++ b); start = length (a ++ b); records = (walked longest a) .records + (walked longest b) .records }
   unfolding splits-append
   both-accepted a b p q e f =
       let s = accepts-dump a p .0 e in
@@ -62,8 +68,8 @@ module _ (longest : ℕ) where
 
   pub past-accepted : (a b : List ℕ) → Octets a → Octets b → (s : Splits (layout longest) a)
       → let w = walkFrom (layout longest) (nexts (layout longest) (s .0) noTable) (length a) b in
-      walked longest (a ++ b) ≡ record { fault = w .fault; place = w .place; records = length (s .0) + length (w .recs) }
+      walked longest (a ++ b) ≡ record { fault = w .fault; place = w .place; start = length a + length (writes (w .recs)); records = length (s .0) + length (w .recs) }
   unfolding walked walkAll
   past-accepted a b p q s =
       let o : Octets (writes (s .0) ++ b) = subst (λ (x : List ℕ). Octets (x ++ b)) (sym (s .2)) (octets-append a b p q) in
-      ap walkedOf (rw (s .2, zero-add) at (past-records (s .0) noTable 0 b (s .1) o)) ∙ rw length-append
+      ap walkedOf (rw (s .2, zero-add) at (past-records (s .0) noTable 0 b (s .1) o)) ∙ rw (writes-append, length-append, length-append, s .2)

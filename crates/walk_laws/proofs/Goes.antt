@@ -2,7 +2,7 @@
 use mathlib.Core.Path.{_≡_, refl, sym, subst}
 use mathlib.Core.Logic.{⊎-elim}
 use mathlib.Core.List.{List}
-use Prim.Native.Nat.{ℕ, _+_, _≤_, _<_}
+use Prim.Native.Nat.{ℕ, _+_, _-_, _≤_, _<_}
 use native.Mathlib.Omega.{arith}
 use native.Mathlib.Nat.{add-zero, eq-or-lt-of-le}
 use lib.ListN.{length, take, drop, length-drop}
@@ -12,7 +12,7 @@ use Rattle.form_spec.specs.Fmt.{Out, bad, good}
 use Rattle.form_spec.specs.Body.{spell}
 use Rattle.form_spec.specs.Shape.{St}
 use Rattle.form_spec.specs.Record.{Rec, write, size, readRec, Valid, next, timeOf}
-use Rattle.form_spec.specs.Dump.{placed, stop, before, walkFrom}
+use Rattle.form_spec.specs.Dump.{stop, before, walkFrom}
 use Rattle.form_laws.proofs.Octets.{octets-drop}
 use Rattle.form_laws.proofs.Fmt.{Right}
 use Rattle.form_laws.proofs.Record.{length-write, sound-rec}
@@ -32,6 +32,7 @@ use Rattle.record_laws.proofs.One.{one-record}
 use Rattle.record_laws.proofs.Accepts.{no-octets, not-refused}
 use Rattle.record_spec.specs.Table.{stateOf}
 use Rattle.record_laws.proofs.Accepts.{tells-table}
+use Rattle.place_laws.proofs.Record.{faulty-record, place-in}
 use Rattle.walk_spec.specs.Steps.{stepped, stepOf, stepAt}
 use Rattle.walk_spec.specs.declared.Item.{Item}
 use Rattle.walk_spec.specs.declared.Step.{Step}
@@ -50,7 +51,7 @@ module _ (longest : ℕ) (d : List ℕ) (at : ℕ) (st : St) where
   pub record AtFault (n p : ℕ) : Type 0 where
     pub off : ℕ
     pub read : readRec (layout longest) st 0 (drop at d) ≡ bad n off
-    pub here : p ≡ placed at (at + off)
+    pub here : p ≡ at + off
     pub number : n ≡ 0 → ⊥
     pub walk : walkFrom (layout longest) st at (drop at d) ≡ stop n p
 
@@ -93,7 +94,7 @@ module _ (longest : ℕ) (d : List ℕ) (oc : Octets d) (at : ℕ) (bound : at �
     moves : (o : Out Rec) → readRec (layout longest) st 0 s ≡ o → readRec (layout longest) st at s ≡ moved at o
     moves o e = rw (← e) (rw add-zero at (moved-record (layout longest) (inside longest) st at 0 s))
 
-    faulty : (n p : ℕ) → readRec (layout longest) st 0 s ≡ bad n p → Right (Valid (layout longest) st) write s (bad n p) → AtFault longest d at st n (placed at (at + p))
+    faulty : (n p : ℕ) → readRec (layout longest) st 0 s ≡ bad n p → Right (Valid (layout longest) st) write s (bad n p) → AtFault longest d at st n (at + p)
     faulty n p e r = record { off = p; read = e; here = refl; number = r; walk = walk-bad (layout longest) st at d n (at + p) oc more (moves (bad n p) e) }
 
     -- a record with this header, and this table told behind it
@@ -155,3 +156,11 @@ shown-past longest d oc at more t st tells i u g =
 pub step-on : (longest : ℕ) (d : List ℕ) → Octets d → (at : ℕ) → at ≤ length d → (t : Table) (i : Item) (u : Table) → stepAt longest t d at ≡ Record i u
     → (at < i .next) × (i .next ≤ length d)
 step-on longest d oc at h t i u e = let g = goes-to longest d oc at h t (stateOf t) (tells-table t) (Record i u) e in (g .on, g .inside)
+
+-- and a fault's place is in the dump, from where its record starts on
+pub fault-in : (longest : ℕ) (d : List ℕ) → Octets d → (at : ℕ) → at < length d → (t : Table) (n p : ℕ) → stepAt longest t d at ≡ Fault n p → (at ≤ p) × (p ≤ length d)
+fault-in longest d oc at h t n p e =
+    let g = goes-to longest d oc at (omega arith) t (stateOf t) (tells-table t) (Fault n p) e in
+    let s : List ℕ = drop at d in
+    let i : g .off ≤ length d - at = rw length-drop at (place-in longest (stateOf t) s n (g .off) (faulty-record longest (stateOf t) s (octets-drop at d oc) (rw length-drop (omega arith)) n (g .off) (g .read)) .0) in
+    (omega (arith, g .here), omega (arith, g .here))

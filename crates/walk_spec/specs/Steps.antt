@@ -2,7 +2,6 @@
 use mathlib.Core.List.{List}
 use Prim.Native.Nat.{ℕ, _+_}
 use lib.ListN.{drop}
-use Rattle.form_spec.specs.Dump.{placed}
 use Rattle.record_spec.specs.declared.Header.{Header}
 use Rattle.record_spec.specs.declared.Table.{Table}
 use Rattle.record_spec.specs.declared.Shown.{Shown}
@@ -20,7 +19,7 @@ stepped at h t = Record (record { at = at; time = time h; ty = h .ty; subtype = 
 -- reading one record counts places from its start
 abbrev pub stepOf : Table → (at : ℕ) → Shown → Step
 stepOf t at Nothing = End
-stepOf t at (Refused n p) = Fault n (placed at (at + p))
+stepOf t at (Refused n p) = Fault n (at + p)
 stepOf t at (Good h b) = stepped at h (tableBehind t b)
 
 -- `longest` counts the octets of the longest BGP message

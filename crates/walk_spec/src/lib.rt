@@ -20,9 +20,11 @@ pub enum Step {
     Record(Item, Table),
 }
 
-// The first fault's number and place, or 0 and the dump's length, and how many records stand before it.
+// The first fault's number and place, or 0 and the dump's length; where the faulty record starts, or the dump's length; and how many records
+// stand before it.
 pub struct Walked {
     pub fault: u8,
     pub place: usize,
+    pub start: usize,
     pub records: u64,
 }

@@ -6,11 +6,11 @@ use Rattle.parts.proofs.place.Tie as tie
 enum-told : tie.Need-enum-told
 enum-told c = search needs
 
-enum-told-2 : tie.Need-enum-told-2
-enum-told-2 c = search needs
-
 enum-known-r : tie.Need-enum-known-r
 enum-known-r c = search needs
+
+enum-known-r-2 : tie.Need-enum-known-r-2
+enum-known-r-2 c = search needs
 
 end-requires : tie.Need-end-requires
 end-requires c κs = search needs
@@ -22,9 +22,9 @@ returns-2 : tie.Need-returns-2
 returns-2 c = search needs
 
 returns-3 : tie.Need-returns-3
-returns-3 c = rw (c .before .before .r .given .1) (c .end .ensures)
+returns-3 c = rw (c .before .before .r2 .given .1) (c .end .ensures)
 
 pub place-spec : {M : Type 1} → statement M
 place-spec =
     tie.close
-    (tie.spec enum-told enum-told-2 enum-known-r end-requires returns returns-2 returns-3)
+    (tie.spec enum-told enum-known-r enum-known-r-2 end-requires returns returns-2 returns-3)

@@ -1,7 +1,14 @@
 -- `walk::step_with` meets its contract.
-use mathlib.Core.Path.{_≡_, refl, ap, _∙_}
+use mathlib.Core.Path.{_≡_, refl, sym, ap, _∙_}
+use mathlib.Core.List.{List}
+use Prim.Native.Nat.{ℕ}
+use native.Mathlib.Omega.{arith}
+use Rattle.form_spec.specs.Octets.{Octets}
+use Rattle.form_laws.proofs.Octets.{octets-of}
 use Rattle.record_spec.specs.declared.Shown.{Shown}
 use Rattle.walk_spec.specs.Steps.{stepped, stepOf, stepAt}
+use Rattle.walk_spec.specs.declared.Step.the-variants.{Fault}
+use Rattle.walk_laws.proofs.Goes.{fault-in}
 use Rattle.walk_laws.proofs.Steps.{past-end, step-over}
 use borrow.Author.Needs.{needs}
 use Rattle.walk.proofs.step_with.Statement.{statement}
@@ -36,6 +43,18 @@ enum-told c = search needs
 enum-known-n : tie.Need-enum-known-n
 enum-known-n c = search needs
 
+-- a fault's place is in the dump
+add-place : tie.Need-add-place
+add-place c =
+    let q : tie.After-read-with = search needs in
+    let n : tie.After-n = search needs in
+    let a = start q .args in
+    let d : List ℕ = a .d .now in
+    let oc : Octets d = octets-of d (λ k. omega (arith, q .before .before .before .shared-slice-known .given k)) in
+    let f : stepAt (a .longest) (a .t) d (a .at) ≡ Fault _ _ = sym (over q _ (n .n .given .1)) in
+    let i = fault-in (a .longest) d oc (a .at) (omega arith) (a .t) _ _ f in
+    omega (arith, i .1)
+
 enum-known-h : tie.Need-enum-known-h
 enum-known-h c = search needs
 
@@ -67,6 +86,7 @@ step-with-spec =
     read-with-requires
     enum-told
     enum-known-n
+    add-place
     enum-known-h
     table-behind-requires
     stepped-requires

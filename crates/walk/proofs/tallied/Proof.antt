@@ -8,7 +8,7 @@ numbers-requires : tie.Need-numbers-requires
 numbers-requires c κs = search needs
 
 returns : tie.Need-returns
-returns c = (refl, refl, c .numbers .ensures)
+returns c = (refl, refl, refl, c .numbers .ensures)
 
 pub tallied-spec : {M : Type 1} → statement M
 tallied-spec = tie.close (tie.spec numbers-requires returns)

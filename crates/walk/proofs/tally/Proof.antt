@@ -212,7 +212,7 @@ returns c =
     let i = k .loop .inv in
     let w = ends (a .longest) (a .d .now) (octets k) (k .loop .at) (k .loop .table) (i .recs) (i .ahead) (answered q ∙ e .enum-told3 .given .1) in
     let t = c .tallied .ensures in
-    stops (a .heed) (a .longest) (a .d .now) _ _ _ _ _ _ _ i 0 _ _ w (t .0) (t .1) (t .2)
+    stops (a .heed) (a .longest) (a .d .now) _ _ _ _ _ _ _ i 0 _ _ w (t .0) (t .1) (t .2) (t .3)
 
 enum-known-n : tie.Need-enum-known-n Inv-loop μ-loop
 enum-known-n c = search needs
@@ -229,7 +229,7 @@ returns-2 c =
     let i = k .loop .inv in
     let w = faults (a .longest) (a .d .now) (octets k) (k .loop .at) (k .loop .table) (i .recs) (i .ahead) _ _ (answered q ∙ n .n .given .1) in
     let t = c .tallied2 .ensures in
-    stops (a .heed) (a .longest) (a .d .now) _ _ _ _ _ _ _ i _ _ _ w (t .0) (t .1) (t .2)
+    stops (a .heed) (a .longest) (a .d .now) _ _ _ _ _ _ _ i _ _ _ w (t .0) (t .1) (t .2) (t .3)
 
 enum-known-i : tie.Need-enum-known-i Inv-loop μ-loop
 enum-known-i c = search needs

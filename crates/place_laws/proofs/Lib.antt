@@ -1,0 +1,5 @@
+pub mod Failed
+pub mod Aims
+pub mod About
+pub mod Record
+pub mod Dump
