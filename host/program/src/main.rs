@@ -8,6 +8,7 @@ mod archive;
 mod arguments;
 mod as_number;
 mod cut;
+mod excerpt;
 mod help;
 mod input;
 mod moment;
