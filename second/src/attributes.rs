@@ -1,6 +1,6 @@
 //! Path attributes: told apart, but their contents are never looked into.
 
-use crate::fault::Fault;
+use crate::fault::{Fault, Flaw};
 use crate::reader::Reader;
 use crate::writer::Writer;
 
@@ -19,7 +19,7 @@ impl Attribute {
         self.flags & EXTENDED_LENGTH != 0
     }
 
-    fn read(reader: &mut Reader) -> Result<Attribute, Fault> {
+    fn read(reader: &mut Reader) -> Result<Attribute, Flaw> {
         let flags = reader.u8()?;
         let code = reader.u8()?;
         let size = if flags & EXTENDED_LENGTH != 0 {
@@ -50,18 +50,18 @@ pub struct Attributes(pub Vec<Attribute>);
 impl Attributes {
     /// Reads the length, then that many octets, and only then judges whether
     /// attributes fill them exactly.
-    pub fn read(reader: &mut Reader) -> Result<Attributes, Fault> {
-        let size = reader.u16()?;
-        let octets = reader.take(usize::from(size))?;
-        Self::tile(octets)
+    pub fn read(reader: &mut Reader) -> Result<Attributes, Flaw> {
+        let size = reader.field("attribute length").u16()?;
+        let octets = reader.field("attributes").take(usize::from(size))?;
+        Self::tile(octets).map_err(|fault| reader.flaw(fault))
     }
 
-    /// Attributes that fill the octets exactly.
+    /// Attributes that fill the octets exactly. Which of them does not is not told.
     pub fn tile(octets: &[u8]) -> Result<Attributes, Fault> {
         Self::read_all(octets).map_err(|_| Fault::AttributesDoNotTile)
     }
 
-    fn read_all(octets: &[u8]) -> Result<Attributes, Fault> {
+    fn read_all(octets: &[u8]) -> Result<Attributes, Flaw> {
         let mut reader = Reader::over(octets);
         let mut list = Vec::new();
         while !reader.is_empty() {

@@ -1,10 +1,11 @@
 //! BGP4MP records, types 16 and 17: what happened in a BGP session.
 
-use crate::fault::Fault;
+use crate::fault::{Fault, Flaw};
 use crate::layout::Content;
 use crate::net::{Address, AsNumber, AsWidth, Family};
 use crate::reader::Reader;
 use crate::writer::Writer;
+use std::cmp::Ordering;
 
 /// Both addresses of a session; they share one family.
 #[derive(Clone, Copy, Debug, PartialEq, Eq)]
@@ -14,10 +15,13 @@ pub enum Ends {
 }
 
 impl Ends {
-    fn read(reader: &mut Reader) -> Result<Ends, Fault> {
-        match Family::read(reader)? {
-            Family::V4 => Ok(Ends::V4 { peer: reader.array()?, local: reader.array()? }),
-            Family::V6 => Ok(Ends::V6 { peer: reader.array()?, local: reader.array()? }),
+    fn read(reader: &mut Reader) -> Result<Ends, Flaw> {
+        let family = Family::read(reader)?;
+        let peer = Address::read(reader.field("peer address"), family)?;
+        let local = reader.field("local address");
+        match peer {
+            Address::V4(peer) => Ok(Ends::V4 { peer, local: local.array()? }),
+            Address::V6(peer) => Ok(Ends::V6 { peer, local: local.array()? }),
         }
     }
 
@@ -51,11 +55,11 @@ pub struct Session {
 }
 
 impl Session {
-    fn read(reader: &mut Reader, width: AsWidth) -> Result<Session, Fault> {
+    fn read(reader: &mut Reader, width: AsWidth) -> Result<Session, Flaw> {
         Ok(Session {
-            peer_as: AsNumber::read(reader, width)?,
-            local_as: AsNumber::read(reader, width)?,
-            interface: reader.u16()?,
+            peer_as: AsNumber::read(reader.field("peer AS"), width)?,
+            local_as: AsNumber::read(reader.field("local AS"), width)?,
+            interface: reader.field("interface index").u16()?,
             ends: Ends::read(reader)?,
         })
     }
@@ -81,8 +85,10 @@ pub enum State {
 }
 
 impl State {
-    fn read(reader: &mut Reader) -> Result<State, Fault> {
-        reader.u16().and_then(State::of)
+    /// Reads one as the field at hand.
+    fn read(reader: &mut Reader) -> Result<State, Flaw> {
+        let code = reader.u16()?;
+        State::of(code).map_err(|fault| reader.flaw(fault))
     }
 
     pub fn of(code: u16) -> Result<State, Fault> {
@@ -114,16 +120,21 @@ impl BgpMessage {
     const HEADER: usize = 19;
     const LARGEST: usize = 4096;
 
-    pub fn read(reader: &mut Reader) -> Result<BgpMessage, Fault> {
-        let mut header = Reader::over(reader.take(Self::HEADER)?);
-        let marker = header.array()?;
-        let length = usize::from(header.u16()?);
-        let code = header.u8()?;
+    /// Reads the message that fills what is left of the record. Where it does not,
+    /// it is the length field that is wrong.
+    pub fn read(reader: &mut Reader) -> Result<BgpMessage, Flaw> {
+        let marker = reader.field("BGP marker").array()?;
+        let length = usize::from(reader.field("BGP length").u16()?);
+        let told = reader.spot();
+        let code = reader.field("BGP type").u8()?;
         if !(Self::HEADER..=Self::LARGEST).contains(&length) {
-            return Err(Fault::BadBgpLength);
+            return Err(told.flaw(Fault::BadBgpLength));
         }
-        let rest = reader.take(length - Self::HEADER)?.to_vec();
-        Ok(BgpMessage { marker, code, rest })
+        match length.cmp(&(Self::HEADER + reader.left())) {
+            Ordering::Greater => Err(told.flaw(Fault::FieldIncomplete)),
+            Ordering::Less => Err(told.flaw(Fault::OctetsLeft)),
+            Ordering::Equal => Ok(BgpMessage { marker, code, rest: reader.take_rest().to_vec() }),
+        }
     }
 
     fn write(&self, writer: &mut Writer) {
@@ -141,11 +152,12 @@ pub enum Event {
 }
 
 impl Event {
-    fn read(reader: &mut Reader, content: Content) -> Result<Event, Fault> {
+    fn read(reader: &mut Reader, content: Content) -> Result<Event, Flaw> {
         match content {
-            Content::StateChange => {
-                Ok(Event::StateChange { old: State::read(reader)?, new: State::read(reader)? })
-            }
+            Content::StateChange => Ok(Event::StateChange {
+                old: State::read(reader.field("old state"))?,
+                new: State::read(reader.field("new state"))?,
+            }),
             Content::Message => BgpMessage::read(reader).map(Event::Message),
         }
     }
@@ -168,7 +180,7 @@ pub struct Bgp4mp {
 }
 
 impl Bgp4mp {
-    pub fn read(reader: &mut Reader, content: Content, width: AsWidth) -> Result<Bgp4mp, Fault> {
+    pub fn read(reader: &mut Reader, content: Content, width: AsWidth) -> Result<Bgp4mp, Flaw> {
         Ok(Bgp4mp { session: Session::read(reader, width)?, event: Event::read(reader, content)? })
     }
 

@@ -1,6 +1,6 @@
 //! A whole dump: its records up to the first fault.
 
-use crate::fault::Fault;
+use crate::fault::{Fault, Flaw};
 use crate::peer_table::TableInForce;
 use crate::reader::Reader;
 use crate::record::Record;
@@ -17,10 +17,23 @@ pub struct Located {
 #[derive(Clone, Copy, Debug, PartialEq, Eq)]
 pub struct End {
     pub fault: Option<Fault>,
+    /// The first octet of the field that failed; the dump's length if none did.
     pub place: usize,
+    /// Where the faulty record's header starts; the dump's length if there is none.
+    pub record: usize,
+    /// What the field that failed is called.
+    pub field: Option<&'static str>,
 }
 
 impl End {
+    fn good(size: usize) -> End {
+        End { fault: None, place: size, record: size, field: None }
+    }
+
+    fn faulty(record: usize, Flaw { fault, spot }: Flaw) -> End {
+        End { fault: Some(fault), place: spot.place, record, field: Some(spot.field) }
+    }
+
     /// Zero when there is no fault.
     pub fn number(self) -> u8 {
         self.fault.map_or(0, Fault::number)
@@ -38,13 +51,11 @@ impl Dump {
         let mut walk = Walk::over(octets);
         let mut records = Vec::new();
         loop {
-            let offset = walk.offset();
+            let offset = walk.reader.come();
             match walk.step() {
-                None => return Dump { records, end: End { fault: None, place: offset } },
+                None => return Dump { records, end: End::good(offset) },
                 Some(Ok(record)) => records.push(Located { offset, record }),
-                Some(Err(fault)) => {
-                    return Dump { records, end: End { fault: Some(fault), place: offset } }
-                }
+                Some(Err(flaw)) => return Dump { records, end: End::faulty(offset, flaw) },
             }
         }
     }
@@ -66,21 +77,16 @@ pub fn write_all<'a>(records: impl IntoIterator<Item = &'a Record>) -> Vec<u8> {
 
 /// A place in a dump, and the peer table in force there.
 struct Walk<'a> {
-    size: usize,
     reader: Reader<'a>,
     table: Option<TableInForce>,
 }
 
 impl<'a> Walk<'a> {
     fn over(octets: &'a [u8]) -> Self {
-        Walk { size: octets.len(), reader: Reader::over(octets), table: None }
+        Walk { reader: Reader::over(octets), table: None }
     }
 
-    fn offset(&self) -> usize {
-        self.size - self.reader.left()
-    }
-
-    fn step(&mut self) -> Option<Result<Record, Fault>> {
+    fn step(&mut self) -> Option<Result<Record, Flaw>> {
         if self.reader.is_empty() {
             return None;
         }

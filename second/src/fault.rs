@@ -34,3 +34,38 @@ impl Fault {
         self as u8
     }
 }
+
+/// A field's name and the place of its first octet.
+#[derive(Clone, Copy, Debug, PartialEq, Eq)]
+pub struct Spot {
+    /// Counted from where the reading began: a dump's first octet, or the header
+    /// of a record that is read alone.
+    pub place: usize,
+    pub field: &'static str,
+}
+
+impl Spot {
+    pub fn flaw(self, fault: Fault) -> Flaw {
+        Flaw { fault, spot: self }
+    }
+}
+
+/// A fault and the field that failed.
+#[derive(Clone, Copy, Debug, PartialEq, Eq)]
+pub struct Flaw {
+    pub fault: Fault,
+    pub spot: Spot,
+}
+
+impl Flaw {
+    pub fn number(self) -> u8 {
+        self.fault.number()
+    }
+}
+
+/// For the writers, which have no place to tell.
+impl From<Flaw> for Fault {
+    fn from(flaw: Flaw) -> Fault {
+        flaw.fault
+    }
+}

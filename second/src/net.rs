@@ -1,6 +1,6 @@
 //! Address families, addresses, AS numbers and prefixes.
 
-use crate::fault::Fault;
+use crate::fault::{Fault, Flaw};
 use crate::reader::Reader;
 use crate::writer::Writer;
 
@@ -11,8 +11,9 @@ pub enum Family {
 }
 
 impl Family {
-    pub fn read(reader: &mut Reader) -> Result<Family, Fault> {
-        reader.u16().and_then(Family::of)
+    pub fn read(reader: &mut Reader) -> Result<Family, Flaw> {
+        let code = reader.field("address family").u16()?;
+        Family::of(code).map_err(|fault| reader.flaw(fault))
     }
 
     pub fn of(code: u16) -> Result<Family, Fault> {
@@ -38,8 +39,9 @@ impl Family {
     }
 
     /// Reads a prefix length and holds it against the family's size.
-    pub fn read_prefix_length(self, reader: &mut Reader) -> Result<u8, Fault> {
-        reader.u8().and_then(|bits| self.prefix_length(bits))
+    pub fn read_prefix_length(self, reader: &mut Reader) -> Result<u8, Flaw> {
+        let bits = reader.field("prefix length").u8()?;
+        self.prefix_length(bits).map_err(|fault| reader.flaw(fault))
     }
 
     /// A prefix length that the family has.
@@ -58,8 +60,9 @@ pub enum Safi {
 }
 
 impl Safi {
-    pub fn read(reader: &mut Reader) -> Result<Safi, Fault> {
-        reader.u8().and_then(Safi::of)
+    pub fn read(reader: &mut Reader) -> Result<Safi, Flaw> {
+        let code = reader.field("SAFI").u8()?;
+        Safi::of(code).map_err(|fault| reader.flaw(fault))
     }
 
     pub fn of(code: u8) -> Result<Safi, Fault> {
@@ -85,7 +88,8 @@ pub enum Address {
 }
 
 impl Address {
-    pub fn read(reader: &mut Reader, family: Family) -> Result<Address, Fault> {
+    /// Reads one as the field at hand.
+    pub fn read(reader: &mut Reader, family: Family) -> Result<Address, Flaw> {
         match family {
             Family::V4 => reader.array().map(Address::V4),
             Family::V6 => reader.array().map(Address::V6),
@@ -126,7 +130,8 @@ pub enum AsNumber {
 }
 
 impl AsNumber {
-    pub fn read(reader: &mut Reader, width: AsWidth) -> Result<AsNumber, Fault> {
+    /// Reads one as the field at hand.
+    pub fn read(reader: &mut Reader, width: AsWidth) -> Result<AsNumber, Flaw> {
         match width {
             AsWidth::Two => reader.u16().map(AsNumber::Two),
             AsWidth::Four => reader.u32().map(AsNumber::Four),
@@ -165,9 +170,9 @@ pub struct Prefix {
 }
 
 impl Prefix {
-    pub fn read(reader: &mut Reader, family: Family) -> Result<Prefix, Fault> {
+    pub fn read(reader: &mut Reader, family: Family) -> Result<Prefix, Flaw> {
         let bits = family.read_prefix_length(reader)?;
-        let octets = reader.take(Self::size(bits))?.to_vec();
+        let octets = reader.field("prefix").take(Self::size(bits))?.to_vec();
         Ok(Prefix { bits, octets })
     }
 

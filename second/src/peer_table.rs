@@ -1,6 +1,6 @@
 //! The peer table, type 13 subtype 1.
 
-use crate::fault::Fault;
+use crate::fault::Flaw;
 use crate::net::{Address, AsNumber, AsWidth, Family};
 use crate::reader::Reader;
 use crate::text;
@@ -19,13 +19,13 @@ pub struct Peer {
 }
 
 impl Peer {
-    pub fn read(reader: &mut Reader) -> Result<Peer, Fault> {
-        let octet = reader.u8()?;
+    pub fn read(reader: &mut Reader) -> Result<Peer, Flaw> {
+        let octet = reader.field("peer type").u8()?;
         Ok(Peer {
             other_bits: octet & !(IPV6 | FOUR_OCTET_AS),
-            bgp_id: reader.u32()?,
-            address: Address::read(reader, Self::family_in(octet))?,
-            asn: AsNumber::read(reader, Self::width_in(octet))?,
+            bgp_id: reader.field("peer BGP ID").u32()?,
+            address: Address::read(reader.field("peer address"), Self::family_in(octet))?,
+            asn: AsNumber::read(reader.field("peer AS"), Self::width_in(octet))?,
         })
     }
 
@@ -74,12 +74,12 @@ pub struct PeerTable {
 }
 
 impl PeerTable {
-    pub fn read(reader: &mut Reader) -> Result<PeerTable, Fault> {
-        let collector = reader.u32()?;
-        let name_size = reader.u16()?;
-        let view_name = reader.take(usize::from(name_size))?.to_vec();
-        text::judge(&view_name)?;
-        let count = reader.u16()?;
+    pub fn read(reader: &mut Reader) -> Result<PeerTable, Flaw> {
+        let collector = reader.field("collector ID").u32()?;
+        let name_size = reader.field("view name length").u16()?;
+        let view_name = reader.field("view name").take(usize::from(name_size))?.to_vec();
+        text::judge(&view_name).map_err(|fault| reader.flaw(fault))?;
+        let count = reader.field("peer count").u16()?;
         let peers = (0..count).map(|_| Peer::read(reader)).collect::<Result<_, _>>()?;
         Ok(PeerTable { collector, view_name, peers })
     }

@@ -1,7 +1,7 @@
 //! One record: its header and the message that its kind calls for.
 
 use crate::bgp4mp::Bgp4mp;
-use crate::fault::Fault;
+use crate::fault::{Fault, Flaw, Spot};
 use crate::layout::{Kind, Layout};
 use crate::peer_table::{PeerTable, TableInForce};
 use crate::reader::Reader;
@@ -20,24 +20,56 @@ pub struct Header {
 impl Header {
     pub const SIZE: usize = 12;
 
-    pub fn read(reader: &mut Reader) -> Result<Header, Fault> {
-        let octets = reader.take(Self::SIZE).map_err(|_| Fault::HeaderIncomplete)?;
-        Self::fields(&mut Reader::over(octets))
-    }
-
-    fn fields(reader: &mut Reader) -> Result<Header, Fault> {
-        Ok(Header {
-            timestamp: reader.u32()?,
-            kind: Kind::new(reader.u16()?, reader.u16()?),
-            length: reader.u32()?,
-        })
-    }
-
     pub fn write(&self, writer: &mut Writer) {
         writer.u32(self.timestamp);
         writer.u16(self.kind.code);
         writer.u16(self.kind.subtype);
         writer.u32(self.length);
+    }
+}
+
+/// A header that was read, and where those of its fields lie that can fail.
+struct Found {
+    header: Header,
+    record: Spot,
+    code: Spot,
+    subtype: Spot,
+}
+
+impl Found {
+    fn read(reader: &mut Reader) -> Result<Found, Flaw> {
+        let record = reader.field("record").spot();
+        let part = reader.part(Header::SIZE);
+        Self::fields(record, part.map_err(|_| record.flaw(Fault::HeaderIncomplete))?)
+    }
+
+    fn fields(record: Spot, mut reader: Reader) -> Result<Found, Flaw> {
+        let timestamp = reader.field("Timestamp").u32()?;
+        let type_code = reader.field("Type").u16()?;
+        let code = reader.spot();
+        let kind = Kind::new(type_code, reader.field("Subtype").u16()?);
+        let subtype = reader.spot();
+        let length = reader.field("Length").u32()?;
+        Ok(Found { header: Header { timestamp, kind, length }, record, code, subtype })
+    }
+
+    /// The octets that Length counts.
+    fn message<'a>(&self, reader: &mut Reader<'a>) -> Result<Reader<'a>, Flaw> {
+        let past_end = self.record.flaw(Fault::LengthPastEnd);
+        let size = usize::try_from(self.header.length).map_err(|_| past_end)?;
+        reader.part(size).map_err(|_| past_end)
+    }
+
+    fn layout(&self) -> Result<Layout, Flaw> {
+        self.header.kind.layout().map_err(|fault| match fault {
+            Fault::UnknownType => self.code.flaw(fault),
+            _ => self.subtype.flaw(fault),
+        })
+    }
+
+    /// The table in force, or what a record that needs one is refused with.
+    fn needed(&self, table: Option<TableInForce>) -> Result<TableInForce, Flaw> {
+        table.ok_or(self.subtype.flaw(Fault::NoTable))
     }
 }
 
@@ -55,16 +87,13 @@ impl Body {
     fn read(
         reader: &mut Reader,
         layout: Layout,
-        table: Option<TableInForce>,
-    ) -> Result<Body, Fault> {
+        table: Result<TableInForce, Flaw>,
+    ) -> Result<Body, Flaw> {
         match layout {
             Layout::Unread { .. } => Ok(Body::Unread(reader.take_rest().to_vec())),
             Layout::TableDump(family) => TableDump::read(reader, family).map(Body::TableDump),
             Layout::PeerTable => PeerTable::read(reader).map(Body::PeerTable),
-            Layout::Rib(form) => {
-                let table = table.ok_or(Fault::NoTable)?;
-                Rib::read(reader, form, table).map(Body::Rib)
-            }
+            Layout::Rib(form) => Rib::read(reader, form, table?).map(Body::Rib),
             Layout::Bgp4mp { content, width, .. } => {
                 Bgp4mp::read(reader, content, width).map(Body::Bgp4mp)
             }
@@ -93,20 +122,23 @@ pub struct Record {
 
 impl Record {
     /// Takes one record off the reader. `table` is the peer table in force.
-    pub fn read(reader: &mut Reader, table: Option<TableInForce>) -> Result<Record, Fault> {
-        let header = Header::read(reader)?;
-        let message = Self::take_message(reader, header.length)?;
-        let layout = header.kind.layout()?;
-        let mut fields = Reader::over(message);
-        let microsecond = if layout.is_timed() { Some(fields.u32()?) } else { None };
-        let body = Body::read(&mut fields, layout, table)?;
-        fields.finish()?;
-        Ok(Record { timestamp: header.timestamp, kind: header.kind, microsecond, body })
+    pub fn read(reader: &mut Reader, table: Option<TableInForce>) -> Result<Record, Flaw> {
+        let found = Found::read(reader)?;
+        let mut message = found.message(reader)?;
+        let layout = found.layout()?;
+        let microsecond = Self::read_microsecond(&mut message, layout)?;
+        let body = Body::read(&mut message, layout, found.needed(table))?;
+        message.finish()?;
+        let Header { timestamp, kind, .. } = found.header;
+        Ok(Record { timestamp, kind, microsecond, body })
     }
 
-    fn take_message<'a>(reader: &mut Reader<'a>, length: u32) -> Result<&'a [u8], Fault> {
-        let size = usize::try_from(length).map_err(|_| Fault::LengthPastEnd)?;
-        reader.take(size).map_err(|_| Fault::LengthPastEnd)
+    fn read_microsecond(reader: &mut Reader, layout: Layout) -> Result<Option<u32>, Flaw> {
+        if layout.is_timed() {
+            reader.field("microseconds").u32().map(Some)
+        } else {
+            Ok(None)
+        }
     }
 
     pub fn write(&self, writer: &mut Writer) {

@@ -1,7 +1,7 @@
 //! RIB records, type 13 subtypes 2 to 6: all routes to one prefix.
 
 use crate::attributes::Attributes;
-use crate::fault::Fault;
+use crate::fault::{Fault, Flaw};
 use crate::layout::RibForm;
 use crate::net::{Family, Prefix, Safi};
 use crate::peer_table::TableInForce;
@@ -17,12 +17,13 @@ pub struct Entry {
 }
 
 impl Entry {
-    pub fn read(reader: &mut Reader, table: TableInForce) -> Result<Entry, Fault> {
-        let peer_index = reader.u16()?;
+    pub fn read(reader: &mut Reader, table: TableInForce) -> Result<Entry, Flaw> {
+        let peer_index = reader.field("peer index").u16()?;
         if !table.has(peer_index) {
-            return Err(Fault::NoSuchPeer);
+            return Err(reader.flaw(Fault::NoSuchPeer));
         }
-        Ok(Entry { peer_index, originated: reader.u32()?, attributes: Attributes::read(reader)? })
+        let originated = reader.field("originated time").u32()?;
+        Ok(Entry { peer_index, originated, attributes: Attributes::read(reader)? })
     }
 
     fn write(&self, writer: &mut Writer) {
@@ -40,7 +41,7 @@ pub struct StatedFamily {
 }
 
 impl StatedFamily {
-    fn read(reader: &mut Reader) -> Result<StatedFamily, Fault> {
+    fn read(reader: &mut Reader) -> Result<StatedFamily, Flaw> {
         Ok(StatedFamily { family: Family::read(reader)?, safi: Safi::read(reader)? })
     }
 
@@ -60,11 +61,11 @@ pub struct Rib {
 }
 
 impl Rib {
-    pub fn read(reader: &mut Reader, form: RibForm, table: TableInForce) -> Result<Rib, Fault> {
-        let sequence = reader.u32()?;
+    pub fn read(reader: &mut Reader, form: RibForm, table: TableInForce) -> Result<Rib, Flaw> {
+        let sequence = reader.field("sequence").u32()?;
         let (stated, family) = Self::read_family(reader, form)?;
         let prefix = Prefix::read(reader, family)?;
-        let count = reader.u16()?;
+        let count = reader.field("entry count").u16()?;
         let entries = (0..count).map(|_| Entry::read(reader, table)).collect::<Result<_, _>>()?;
         Ok(Rib { sequence, stated, prefix, entries })
     }
@@ -72,7 +73,7 @@ impl Rib {
     fn read_family(
         reader: &mut Reader,
         form: RibForm,
-    ) -> Result<(Option<StatedFamily>, Family), Fault> {
+    ) -> Result<(Option<StatedFamily>, Family), Flaw> {
         match form {
             RibForm::Fixed(family) => Ok((None, family)),
             RibForm::Generic => {

@@ -1,7 +1,7 @@
 //! The old table dump, type 12: one route to a record.
 
 use crate::attributes::Attributes;
-use crate::fault::Fault;
+use crate::fault::Flaw;
 use crate::net::{Address, AsNumber, AsWidth, Family};
 use crate::reader::Reader;
 use crate::writer::Writer;
@@ -21,16 +21,16 @@ pub struct TableDump {
 }
 
 impl TableDump {
-    pub fn read(reader: &mut Reader, family: Family) -> Result<TableDump, Fault> {
+    pub fn read(reader: &mut Reader, family: Family) -> Result<TableDump, Flaw> {
         Ok(TableDump {
-            view: reader.u16()?,
-            sequence: reader.u16()?,
-            prefix: Address::read(reader, family)?,
+            view: reader.field("view").u16()?,
+            sequence: reader.field("sequence").u16()?,
+            prefix: Address::read(reader.field("prefix"), family)?,
             prefix_bits: family.read_prefix_length(reader)?,
-            status: reader.u8()?,
-            originated: reader.u32()?,
-            peer: Address::read(reader, family)?,
-            peer_as: AsNumber::read(reader, AsWidth::Two)?,
+            status: reader.field("status").u8()?,
+            originated: reader.field("originated time").u32()?,
+            peer: Address::read(reader.field("peer address"), family)?,
+            peer_as: AsNumber::read(reader.field("peer AS"), AsWidth::Two)?,
             attributes: Attributes::read(reader)?,
         })
     }

@@ -81,9 +81,7 @@ pub struct Message {
 impl Message {
     pub(super) fn draft(&self) -> Result<Draft, Fault> {
         let mut draft = self.session.draft(Content::Message)?;
-        let mut reader = Reader::over(&self.message);
-        BgpMessage::read(&mut reader)?;
-        reader.finish()?;
+        BgpMessage::read(&mut Reader::over(&self.message))?;
         draft.octets(&self.message);
         Ok(draft)
     }

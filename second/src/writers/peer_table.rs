@@ -35,6 +35,6 @@ impl PeerTable {
         for _ in 0..count {
             Peer::read(&mut reader)?;
         }
-        reader.finish()
+        Ok(reader.finish()?)
     }
 }

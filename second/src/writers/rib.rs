@@ -35,7 +35,7 @@ impl Routes {
         for _ in 0..count {
             Entry::read(&mut reader, table)?;
         }
-        reader.finish()
+        Ok(reader.finish()?)
     }
 }
 
