@@ -8,6 +8,7 @@ use crate::itself;
 use crate::making;
 use crate::muting;
 use crate::naming::{self, NameCalls};
+use crate::placing;
 use crate::reading;
 use crate::reporting;
 use crate::tally::Tally;
@@ -86,6 +87,7 @@ pub fn compare_dump(dump: &[u8], rng: &mut Rng, desks: &mut Desks, tally: &mut T
     reading::compare(dump, &read, rng, desks, tally)?;
     let desk = &mut desks.dump;
     same(|| "check".into(), desk.check()?, expected::check(&read))?;
+    placing::compare(&calls::first_fault, dump, &read, desk, tally)?;
     itself::compare(desk)?;
     walk(&read, desk, tally)?;
     for _ in 0..4 {
@@ -108,8 +110,8 @@ fn walk(read: &Dump, desk: &mut Desk, tally: &mut Tally) -> Told<()> {
         items(located, words[8] as usize, desk, tally)?;
         tally.records += 1;
     }
-    let at = read.end.place;
-    let words = expected::no_record(read.end.number().into(), at, table);
+    let at = read.end.record;
+    let words = expected::no_record(read.end.number(), read.end.place, table);
     same(|| format!("record at={at} table={table}"), desk.record(at, table)?, words)
 }
 

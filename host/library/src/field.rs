@@ -132,13 +132,17 @@ fn layout(type_code: u16, subtype: u16) -> Option<Layout> {
 pub fn name(dump: &[u8], found: &FirstFault) -> Option<&'static str> {
     let record = dump.get(found.record..)?;
     let place = found.place.checked_sub(found.record)?;
-    let name = match place {
-        0 => "record",
-        4 => "Type",
-        6 => "Subtype",
-        _ => in_message(record, place)?,
-    };
-    can_have(name, found.fault).then_some(name)
+    let name = if place < HEADER { in_header(record, place) } else { in_message(record, place) };
+    name.filter(|name| can_have(name, found.fault))
+}
+
+fn in_header(octets: &[u8], place: usize) -> Option<&'static str> {
+    match place {
+        0 if !octets.is_empty() => Some("record"),
+        4 if octets.len() >= HEADER => Some("Type"),
+        6 if octets.len() >= HEADER => Some("Subtype"),
+        _ => None,
+    }
 }
 
 fn can_have(name: &str, fault: Fault) -> bool {

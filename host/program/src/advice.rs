@@ -1,5 +1,6 @@
 //! A fault in words: what it means, what it often comes from, and what a person can do.
 
+use crate::header::Header;
 use crate::{excerpt, view_name};
 use dagsumilat::{first_fault, Fault, FirstFault};
 
@@ -32,16 +33,13 @@ fn seen(dump: &[u8], found: &FirstFault) -> String {
 
 /// The field that failed, where its record starts, and what that record is.
 fn field(dump: &[u8], found: &FirstFault) -> String {
-    let name = found.field(dump).map(|name| format!("Field: {name}. ")).unwrap_or_default();
-    let header = header(dump, found.record).unwrap_or_default();
-    format!("{name}The record starts{}{header}.", place(found.record))
-}
-
-fn header(dump: &[u8], record: usize) -> Option<String> {
-    let header = dump.get(record..)?.first_chunk::<12>()?;
-    let [type_code, subtype] = [4, 6].map(|at| u16::from_be_bytes([header[at], header[at + 1]]));
-    let length = u32::from_be_bytes([header[8], header[9], header[10], header[11]]);
-    Some(format!(": Type {type_code}, Subtype {subtype}, Length {length}"))
+    let header = Header::at(dump, found.record);
+    let end = header.as_ref().and_then(|header| header.end(found.record));
+    let is_missing = found.fault == Fault::FieldIncomplete && end == Some(found.place);
+    let missing = if is_missing { ", of which nothing is there" } else { "" };
+    let name = found.field(dump).map(|name| format!("Field: {name}{missing}. "));
+    let header = header.map(|header| format!(": {header}")).unwrap_or_default();
+    format!("{}The record starts{}{header}.", name.unwrap_or_default(), place(found.record))
 }
 
 fn before(found: &FirstFault) -> String {

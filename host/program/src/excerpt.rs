@@ -1,17 +1,18 @@
 //! The octets around a fault, as a person reads them in a hex dump.
 
+use crate::header::{self, Header};
 use dagsumilat::FirstFault;
 use std::fmt::Write;
 
 /// As many octets in a row as other programs show, so that the offsets are the same.
 const ROW: usize = 16;
-const HEADER: usize = 12;
 
 /// The row of the fault's place, and one before and one behind it. The octet at the place stands in
 /// brackets, or two dashes where there is none; a bar stands where the faulty record starts, and
 /// where it ends. A record that starts before these rows has a row for its header.
 pub fn rows(dump: &[u8], found: &FirstFault) -> Vec<String> {
-    let excerpt = Excerpt { dump, found, end: end(dump, found.record) };
+    let end = Header::at(dump, found.record).and_then(|header| header.end(found.record));
+    let excerpt = Excerpt { dump, found, end };
     let from = (found.place / ROW).saturating_sub(1) * ROW;
     let mut rows = excerpt.header(from);
     let is_shown = |start: &usize| *start < dump.len() || *start == found.place;
@@ -20,16 +21,10 @@ pub fn rows(dump: &[u8], found: &FirstFault) -> Vec<String> {
     rows
 }
 
-/// Where the record at this offset ends, if its header is there.
-fn end(dump: &[u8], record: usize) -> Option<usize> {
-    let header = dump.get(record..)?.first_chunk::<HEADER>()?;
-    let length = u32::from_be_bytes([header[8], header[9], header[10], header[11]]);
-    record.checked_add(HEADER)?.checked_add(length as usize)
-}
-
 struct Excerpt<'a> {
     dump: &'a [u8],
     found: &'a FirstFault,
+    /// Of the faulty record, by its Length.
     end: Option<usize>,
 }
 
@@ -38,34 +33,36 @@ impl Excerpt<'_> {
     fn header(&self, from: usize) -> Vec<String> {
         match from.checked_sub(self.found.record) {
             None | Some(0) => Vec::new(),
-            Some(size @ ..=HEADER) => vec![self.row(self.found.record, size)],
-            Some(_) => vec![self.row(self.found.record, HEADER), "...".to_string()],
+            Some(size @ ..=header::SIZE) => vec![self.row(self.found.record, size)],
+            Some(_) => vec![self.row(self.found.record, header::SIZE), "...".to_string()],
         }
     }
 
     fn row(&self, start: usize, size: usize) -> String {
         let mut text = format!("{start:08x} ");
-        let mut at = start;
-        for octet in self.dump.get(start..).unwrap_or_default().iter().take(size) {
-            let _ = write!(text, "{}{octet:02x}", self.before(at));
-            at += 1;
+        let octets = self.dump.get(start..).unwrap_or_default();
+        for (at, octet) in (start..).zip(octets.iter().take(size)) {
+            let behind_mark = at > start && at - 1 == self.found.place;
+            let edge = if behind_mark { ']' } else { self.edge(at) };
+            let _ = write!(text, "{edge}{octet:02x}");
         }
-        // What stands behind the last octet is told too where it is the place.
-        if self.found.place == at && at == self.dump.len() {
+        let end = start.saturating_add(octets.len().min(size));
+        if end == self.found.place && end == self.dump.len() {
             text.push_str("[--]");
-        } else if self.before(at) == ']' {
+        } else if end > start && end - 1 == self.found.place {
             text.push(']');
         }
         text
     }
 
     /// What stands before the octet at this offset.
-    fn before(&self, at: usize) -> char {
-        match at {
-            _ if at == self.found.place => '[',
-            _ if at.checked_sub(1) == Some(self.found.place) => ']',
-            _ if at == self.found.record || Some(at) == self.end => '|',
-            _ => ' ',
+    fn edge(&self, at: usize) -> char {
+        if at == self.found.place {
+            '['
+        } else if at == self.found.record || Some(at) == self.end {
+            '|'
+        } else {
+            ' '
         }
     }
 }
@@ -78,7 +75,7 @@ mod tests {
     /// So many octets that count up, in which a record of this size starts.
     fn dump(size: usize, record: usize, record_size: usize) -> Vec<u8> {
         let mut dump: Vec<u8> = (0..size).map(|at| at as u8).collect();
-        let length = (record_size - HEADER) as u32;
+        let length = (record_size - header::SIZE) as u32;
         dump[record + 8..record + 12].copy_from_slice(&length.to_be_bytes());
         dump
     }
@@ -109,8 +106,13 @@ mod tests {
     #[test]
     fn the_ends_of_a_row() {
         let dump = dump(48, 0, 48);
-        assert!(rows_of(&dump, 0, 31)[1].ends_with(" 1e[1f]"));
-        assert!(rows_of(&dump, 0, 32)[1].starts_with("00000020 [20]21 "));
+        let rows = rows_of(&dump, 0, 31);
+        assert!(
+            rows[1].ends_with(" 1e[1f]") && rows[2].starts_with("00000020  20 21 "),
+            "{rows:?}"
+        );
+        let rows = rows_of(&dump, 0, 32);
+        assert!(rows[2].ends_with(" 1e 1f") && rows[3].starts_with("00000020 [20]21 "), "{rows:?}");
     }
 
     #[test]
@@ -144,8 +146,8 @@ mod tests {
         let dump = dump(40, 3, 20);
         let numbers = [0, 1, 15, 16, 28, 39, 40, 41, 1_000, usize::MAX - 1, usize::MAX];
         for size in [0, 1, 12, 20, 40] {
-            for record in numbers {
-                numbers.map(|place| assert!(rows_of(&dump[..size], record, place).len() <= 5));
+            for (record, place) in numbers.iter().flat_map(|it| numbers.map(|place| (*it, place))) {
+                assert!(rows_of(&dump[..size], record, place).len() <= 5);
             }
         }
     }

@@ -9,6 +9,7 @@ mod arguments;
 mod as_number;
 mod cut;
 mod excerpt;
+mod header;
 mod help;
 mod input;
 mod moment;
