@@ -44,12 +44,12 @@ impl Found {
     }
 
     fn fields(record: Spot, mut reader: Reader) -> Result<Found, Flaw> {
-        let timestamp = reader.field("Timestamp").u32()?;
+        let timestamp = reader.u32()?;
         let type_code = reader.field("Type").u16()?;
         let code = reader.spot();
         let kind = Kind::new(type_code, reader.field("Subtype").u16()?);
         let subtype = reader.spot();
-        let length = reader.field("Length").u32()?;
+        let length = reader.u32()?;
         Ok(Found { header: Header { timestamp, kind, length }, record, code, subtype })
     }
 

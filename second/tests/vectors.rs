@@ -1,6 +1,6 @@
 //! The generated dumps against what their makers meant, and written back.
 
-use second::dump::Dump;
+use second::dump::{Dump, End};
 use second::listing::listing;
 use second::sample;
 use second::vectors::rng::Rng;
@@ -11,9 +11,9 @@ fn readings_are_as_meant() {
     for (name, vector) in Suite::generate().iter() {
         let Some(intent) = vector.intent else { continue };
         let dump = Dump::read(&vector.octets);
-        let found =
-            Intent { records: dump.records.len(), fault: dump.end.number(), place: dump.end.place };
-        assert_eq!(found, intent, "{name}");
+        let End { place, record, field, .. } = dump.end;
+        let (records, fault) = (dump.records.len(), dump.end.number());
+        assert_eq!(Intent { records, fault, place, record, field }, intent, "{name}");
     }
 }
 
@@ -29,7 +29,7 @@ fn good_dumps_come_back() {
     let mut seen = 0;
     for (name, vector) in suite.iter() {
         let dump = Dump::read(&vector.octets);
-        assert_eq!(dump.to_octets(), vector.octets[..dump.end.place], "{name}");
+        assert_eq!(dump.to_octets(), vector.octets[..dump.end.record], "{name}");
         seen += usize::from(dump.end.fault.is_none());
     }
     assert!(seen >= 100);
@@ -93,7 +93,8 @@ fn spoiled_dumps_are_read_to_an_end() {
             }
         }
         let dump = Dump::read(&octets);
-        assert_eq!(dump.to_octets(), octets[..dump.end.place], "{name}");
-        assert!(dump.end.fault.is_some() || dump.end.place == octets.len());
+        assert_eq!(dump.to_octets(), octets[..dump.end.record], "{name}");
+        let size = octets.len();
+        assert!(dump.end.fault.is_some() || (dump.end.place, dump.end.record) == (size, size));
     }
 }

@@ -60,7 +60,7 @@ fn entries(indexes: &[u16]) -> Sketch {
 }
 
 fn entry_octets(index: u16) -> Vec<u8> {
-    entry(Sketch::new(13, 3), index, 0).message()
+    entry(Sketch::new(13, 3), 0, (index, 0)).message()
 }
 
 /// 33,000 peers, all of AS 7 but for some; indexes past 15 bits before the cut,
@@ -97,11 +97,12 @@ fn many_entries(book: &mut Book) {
 fn longest_names(book: &mut Book) {
     let mut name = MIXED.repeat(6_553).into_bytes();
     name.resize(65_535, b'z');
-    let with = |name: &[u8], numbers: &[u32]| octets(&[named_table(name, &members(numbers))]);
+    let with = |name: &[u8], numbers: &[u32]| named_table(name, &members(numbers));
     let ask = Ask::whole().muting(&[20]);
-    let dump = with(&name, &[10, 20, 30]);
-    book.left("large-name-65535", &ask, &dump, &with(&name, &[10, 30]));
+    let [dump, left] = [[10, 20, 30].as_slice(), &[10, 30]].map(|peers| with(&name, peers).record());
+    book.left("large-name-65535", &ask, &[dump], &[left]);
     name[65_534] = 0xbf;
-    let dump = with(&name, &[10, 20, 30]).concat();
-    book.refused("large-name-65535-last-octet", &ask, dump.len(), &dump, (17, 0));
+    let slip = with(&name, &[10, 20, 30]).wrong(17, "name");
+    let dump = &slip.octets;
+    book.refused("large-name-65535-last-octet", &ask, dump.len(), dump, slip.after(0));
 }

@@ -73,16 +73,18 @@ pub fn rib(subtype: u16, entries: &[(u16, u8)]) -> Sketch {
         _ => shapes::generic_rib(2, 1, 33, &v6, &[]),
     };
     let head = head.set_n("entry-count", entries.len() as u64);
-    entries.iter().fold(head, |sketch, (index, tag)| entry(sketch, *index, *tag))
+    entries.iter().enumerate().fold(head, |sketch, (number, of)| entry(sketch, number, *of))
 }
 
-pub fn entry(sketch: Sketch, index: u16, tag: u8) -> Sketch {
+/// The entry of this number, counted from 0.
+pub fn entry(sketch: Sketch, number: usize, (index, tag): (u16, u8)) -> Sketch {
     let attributes = attributes(tag);
+    let field = |what: &str| format!("entry{number}-{what}");
     sketch
-        .n("entry-index", 2, index.into())
-        .n("originated", 4, 1_000 + u64::from(tag))
-        .n("attribute-length", 2, attributes.len() as u64)
-        .raw("attributes", &attributes)
+        .n(&field("index"), 2, index.into())
+        .n(&field("originated"), 4, 1_000 + u64::from(tag))
+        .n(&field("attribute-length"), 2, attributes.len() as u64)
+        .raw(&field("attributes"), &attributes)
 }
 
 fn attributes(tag: u8) -> Vec<u8> {

@@ -135,10 +135,10 @@ fn names_refused(book: &mut Book) {
 
 /// Good records, then those from the table on that is refused.
 fn name_refused(book: &mut Book, what: &str, before: &[Sketch], from: &[Sketch]) {
-    let place = octets(before).concat().len();
+    let at = from[0].wrong(17, "name").after(octets(before).concat().len());
     let dump = octets(&[before, from].concat()).concat();
     let ask = Ask::whole().muting(&[20]);
-    book.refused(format!("table-name-{what}"), &ask, dump.len(), &dump, (17, place));
+    book.refused(format!("table-name-{what}"), &ask, dump.len(), &dump, at);
 }
 
 /// An entry for each of three peers.

@@ -1,9 +1,10 @@
 //! Dumps about the size that is printed: larger ones are counted all the same.
 
-use super::parts::{all, change, changes, counted, own, routes};
+use super::parts::{all, changes, counted, own, routes, states};
 use super::Book;
+use crate::net::Family::V4;
 use crate::report::Report;
-use crate::vectors::shapes::unread;
+use crate::vectors::shapes::{state_change, unread};
 
 pub fn add(book: &mut Book) {
     for size in [65_535, 65_536, 65_537] {
@@ -30,12 +31,11 @@ fn good(book: &mut Book, size: usize) {
 
 /// A state change too short for its new state ends it.
 fn faulty(book: &mut Book, size: usize) {
-    let mut last = change(1, 1);
-    last.pop();
-    last[11] -= 1;
-    let before = filled(size - last.len()).concat();
-    let dump = [before.clone(), last].concat();
-    book.refused(format!("size-{size}-fault"), &counted(), &dump, (5, before.len()));
+    let change = states(&state_change(16, 0, V4), 1, 1);
+    let last = change.cut_short(change.message().len() - 1);
+    let before = filled(size - last.octets.len()).concat();
+    let dump = [&before[..], &last.octets].concat();
+    book.refused(format!("size-{size}-fault"), &counted(), &dump, last.after(before.len()));
 }
 
 /// As many as a printed dump can have, and more.

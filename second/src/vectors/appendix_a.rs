@@ -66,9 +66,10 @@ pub fn add(suite: &mut Suite) {
     let fifteen = plain_table(15).record();
     suite.good("appendix-a-1-message-as4", &[message().record()]);
     suite.good("appendix-a-2-peer-table", &[table().record()]);
-    suite.bad("appendix-a-3-rib-alone", &[], &rib().record(), 12);
-    suite.bad("appendix-a-3-rib-after-its-2-peers", &[table().record()], &rib().record(), 13);
-    suite.bad("appendix-a-3-rib-after-15-peers", &[fifteen], &rib().record(), 13);
+    suite.bad("appendix-a-3-rib-alone", &[], rib().wrong_subtype(12));
+    let stranger = rib().wrong(13, "entry0-index");
+    suite.bad("appendix-a-3-rib-after-its-2-peers", &[table().record()], stranger.clone());
+    suite.bad("appendix-a-3-rib-after-15-peers", &[fifteen], stranger);
     suite.good("appendix-a-3-rib-after-16-peers", &[sixteen.clone(), rib().record()]);
     suite.good("appendix-a-all", &[message().record(), table().record(), sixteen, rib().record()]);
 }

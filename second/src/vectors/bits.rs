@@ -5,6 +5,7 @@
 use super::shapes::{
     generic_rib, keepalive, peer_table, plain_table, rib, state_change, table_dump, Route, PATH,
 };
+use super::slip::Slip;
 use super::Suite;
 use crate::net::Family::V4;
 use std::ops::Range;
@@ -22,58 +23,61 @@ pub fn add(suite: &mut Suite) {
 /// A good value of a field with each of these bits set, one at a time, refused.
 fn each_bit(
     suite: &mut Suite,
-    (name, fault): (&str, u8),
+    name: &str,
     before: &[Vec<u8>],
     (good, bits): (u64, Range<u32>),
-    record: impl Fn(u64) -> Vec<u8>,
+    slip: impl Fn(u64) -> Slip,
 ) {
     for bit in bits.filter(|bit| good >> bit & 1 == 0) {
-        suite.bad(format!("bits-{name}-{bit:02}"), before, &record(good | 1 << bit), fault);
+        suite.bad(format!("bits-{name}-{bit:02}"), before, slip(good | 1 << bit));
     }
 }
 
 fn kinds(suite: &mut Suite) {
     let change = state_change(16, 0, V4);
-    let kind = |code: u64, subtype: u64| change.retyped(code as u16, subtype as u16).record();
     // With bit 5 the type is 48, which is listed.
-    each_bit(suite, ("type", 3), &[], (16, 6..16), |code| kind(code, 0));
-    each_bit(suite, ("16-subtype", 4), &[], (0, 3..16), |subtype| kind(16, subtype));
+    each_bit(suite, "type", &[], (16, 6..16), |code| change.retyped(code as u16, 0).wrong_type());
+    each_bit(suite, "16-subtype", &[], (0, 3..16), |subtype| {
+        change.retyped(16, subtype as u16).wrong_subtype(4)
+    });
     let route = table_dump(V4, &PATH);
-    each_bit(suite, ("12-subtype", 4), &[], (1, 1..16), |subtype| {
-        route.retyped(12, subtype as u16).record()
+    each_bit(suite, "12-subtype", &[], (1, 1..16), |subtype| {
+        route.retyped(12, subtype as u16).wrong_subtype(4)
     });
     let table = plain_table(2);
-    each_bit(suite, ("13-subtype", 4), &[], (1, 3..16), |subtype| {
-        table.retyped(13, subtype as u16).record()
+    each_bit(suite, "13-subtype", &[], (1, 3..16), |subtype| {
+        table.retyped(13, subtype as u16).wrong_subtype(4)
     });
 }
 
 fn lengths(suite: &mut Suite) {
     let change = state_change(16, 0, V4);
-    each_bit(suite, ("length", 2), &[], (20, 5..32), |length| change.claiming(length as u32));
+    each_bit(suite, "length", &[], (20, 5..32), |length| {
+        Slip::whole(2, &change.claiming(length as u32))
+    });
 }
 
 fn checked_fields(suite: &mut Suite) {
     let change = state_change(16, 0, V4);
-    each_bit(suite, ("16-family", 7), &[], (1, 1..16), |value| {
-        change.set_n("family", value).record()
+    each_bit(suite, "16-family", &[], (1, 1..16), |value| {
+        change.set_n("family", value).wrong(7, "family")
     });
     for state in ["old-state", "new-state"] {
-        each_bit(suite, (&format!("16-{state}"), 9), &[], (3, 3..16), |value| {
-            change.set_n(state, value).record()
+        each_bit(suite, &format!("16-{state}"), &[], (3, 3..16), |value| {
+            change.set_n(state, value).wrong(9, state)
         });
     }
     let message = keepalive(16, 1, V4);
-    each_bit(suite, ("16-bgp-length", 10), &[], (19, 12..16), |value| {
-        message.set_n("bgp-length", value).record()
+    each_bit(suite, "16-bgp-length", &[], (19, 12..16), |value| {
+        message.set_n("bgp-length", value).wrong(10, "bgp-length")
     });
     let before = [plain_table(1).record()];
     let generic = generic_rib(1, 1, 24, &[198, 51, 100], &[]);
     for (field, fault, good, bits) in
         [("family", 7, 1, 1..16), ("safi", 7, 1, 1..8), ("prefix-length", 8, 24, 5..8)]
     {
-        each_bit(suite, (&format!("13-6-{field}"), fault), &before, (good, bits), |value| {
-            generic.set_n(field, value).record()
+        each_bit(suite, &format!("13-6-{field}"), &before, (good, bits), |value| {
+            generic.set_n(field, value).wrong(fault, field)
         });
     }
 }
@@ -82,37 +86,37 @@ fn checked_fields(suite: &mut Suite) {
 fn sizes_inside(suite: &mut Suite) {
     let size = PATH.len() as u64;
     let route = table_dump(V4, &PATH);
-    each_bit(suite, ("12-attribute-length", 5), &[], (size, 5..16), |value| {
-        route.set_n("attribute-length", value).record()
+    each_bit(suite, "12-attribute-length", &[], (size, 5..16), |value| {
+        route.set_n("attribute-length", value).wrong(5, "attributes")
     });
     let before = [plain_table(1).record()];
     let entry = rib(2, 0, &[], &[Route(0, &PATH)]);
-    each_bit(suite, ("13-2-attribute-length", 5), &before, (size, 5..16), |value| {
-        entry.set_n("entry0-attribute-length", value).record()
+    each_bit(suite, "13-2-attribute-length", &before, (size, 5..16), |value| {
+        entry.set_n("entry0-attribute-length", value).wrong(5, "entry0-attributes")
     });
     let named = peer_table(b"desk", &[0]);
-    each_bit(suite, ("13-1-name-length", 5), &[], (4, 4..16), |value| {
-        named.set_n("name-length", value).record()
+    each_bit(suite, "13-1-name-length", &[], (4, 4..16), |value| {
+        named.set_n("name-length", value).wrong(5, "name")
     });
-    each_bit(suite, ("12-extended-length", 11), &[], (0, 0..16), |value| {
+    each_bit(suite, "12-extended-length", &[], (0, 0..16), |value| {
         let [high, low] = (value as u16).to_be_bytes();
-        table_dump(V4, &[0x50, 2, high, low]).record()
+        table_dump(V4, &[0x50, 2, high, low]).wrong(11, "attributes")
     });
 }
 
 /// Counts and indexes above what is there.
 fn counts(suite: &mut Suite) {
     let table = plain_table(2);
-    each_bit(suite, ("13-1-peer-count", 5), &[], (2, 2..16), |count| {
-        table.set_n("peer-count", count).record()
+    each_bit(suite, "13-1-peer-count", &[], (2, 2..16), |count| {
+        table.set_n("peer-count", count).lacking("peer type")
     });
     let before = [table.record()];
     let entries = rib(4, 0, &[], &[Route(1, &[]), Route(0, &[])]);
-    each_bit(suite, ("13-4-entry-count", 5), &before, (2, 2..16), |count| {
-        entries.set_n("entry-count", count).record()
+    each_bit(suite, "13-4-entry-count", &before, (2, 2..16), |count| {
+        entries.set_n("entry-count", count).lacking("peer index")
     });
-    each_bit(suite, ("13-4-index", 13), &before, (1, 1..16), |index| {
-        entries.set_n("entry0-index", index).record()
+    each_bit(suite, "13-4-index", &before, (1, 1..16), |index| {
+        entries.set_n("entry0-index", index).wrong(13, "entry0-index")
     });
 }
 
@@ -120,8 +124,8 @@ fn counts(suite: &mut Suite) {
 fn long_name(suite: &mut Suite) {
     let table = peer_table(&[0x2e; 32_768], &[2, 3]).record();
     let good = rib(2, 0, &[], &[Route(1, &PATH)]).record();
-    let faulty = rib(2, 0, &[], &[Route(2, &PATH)]).record();
-    suite.bad("13-1-view-name-32768-octets", &[table, good], &faulty, 13);
+    let faulty = rib(2, 0, &[], &[Route(2, &PATH)]).wrong(13, "entry0-index");
+    suite.bad("13-1-view-name-32768-octets", &[table, good], faulty);
 }
 
 /// Tables of many peers, an entry for each (or for the last), then one for a
@@ -130,9 +134,9 @@ fn many_peers(suite: &mut Suite) {
     let table = |peers: usize| peer_table(b"", &vec![0; peers]).record();
     let routes: Vec<_> = (0..600).map(|index| Route(index, &[])).collect();
     let all = rib(3, 0, &[], &routes).record();
-    let faulty = rib(3, 0, &[], &[Route(600, &[])]).record();
-    suite.bad("13-3-600-entries-of-600", &[table(600), all], &faulty, 13);
+    let faulty = rib(3, 0, &[], &[Route(600, &[])]).wrong(13, "entry0-index");
+    suite.bad("13-3-600-entries-of-600", &[table(600), all], faulty);
     let last = rib(3, 0, &[], &[Route(4_999, &[])]).record();
-    let faulty = rib(3, 0, &[], &[Route(5_000, &[])]).record();
-    suite.bad("13-3-index5000-of-5000", &[table(5_000), last], &faulty, 13);
+    let faulty = rib(3, 0, &[], &[Route(5_000, &[])]).wrong(13, "entry0-index");
+    suite.bad("13-3-index5000-of-5000", &[table(5_000), last], faulty);
 }

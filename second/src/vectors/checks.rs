@@ -1,6 +1,5 @@
 //! Each field's own check, on both sides of its boundary.
 
-use super::examples::one;
 use super::rng::Rng;
 use super::shapes::{
     address, bgp_message, family_name, generic_rib, keepalive, peer_table, plain_table, rib,
@@ -8,6 +7,7 @@ use super::shapes::{
     STATE_CHANGES,
 };
 use super::sketch::Sketch;
+use super::slip::Slip;
 use super::Suite;
 use crate::net::Family::{self, V4, V6};
 
@@ -33,24 +33,24 @@ fn types(suite: &mut Suite) {
     let record = state_change(16, 0, V4);
     let wrong = [0, 10, 14, 15, 18, 31, 34, 47, 50, 2816, 4096, 65_535];
     for code in wrong {
-        suite.bad(format!("type-{code}-unknown"), &[], &record.retyped(code, 0).record(), 3);
+        suite.bad(format!("type-{code}-unknown"), &[], record.retyped(code, 0).wrong_type());
     }
 }
 
 fn subtypes(suite: &mut Suite) {
     let table = [plain_table(1).record()];
     for subtype in [0, 3, 257, 65_535] {
-        let record = table_dump(V4, &PATH).retyped(12, subtype).record();
-        suite.bad(format!("12-{subtype}-unknown-subtype"), &[], &record, 4);
+        let slip = table_dump(V4, &PATH).retyped(12, subtype).wrong_subtype(4);
+        suite.bad(format!("12-{subtype}-unknown-subtype"), &[], slip);
     }
     for subtype in [0, 7, 8, 258] {
-        let record = rib(2, 0, &[], &[]).retyped(13, subtype).record();
-        suite.bad(format!("13-{subtype}-unknown-subtype"), &table, &record, 4);
+        let slip = rib(2, 0, &[], &[]).retyped(13, subtype).wrong_subtype(4);
+        suite.bad(format!("13-{subtype}-unknown-subtype"), &table, slip);
     }
     for code in [16, 17] {
         for subtype in [2, 3, 8, 256] {
-            let record = state_change(code, 0, V4).retyped(code, subtype).record();
-            suite.bad(format!("{code}-{subtype}-unknown-subtype"), &[], &record, 4);
+            let slip = state_change(code, 0, V4).retyped(code, subtype).wrong_subtype(4);
+            suite.bad(format!("{code}-{subtype}-unknown-subtype"), &[], slip);
         }
     }
     for code in [11, 32, 33, 48, 49] {
@@ -63,32 +63,32 @@ fn subtypes(suite: &mut Suite) {
 fn families(suite: &mut Suite) {
     for code in [16, 17] {
         for subtype in STATE_CHANGES {
-            let record = state_change(code, subtype, V4).set_n("family", 3).record();
-            suite.bad(format!("{code}-{subtype}-family3"), &[], &record, 7);
+            let change = state_change(code, subtype, V4).set_n("family", 3);
+            suite.bad(format!("{code}-{subtype}-family3"), &[], change.wrong(7, "family"));
         }
         for subtype in MESSAGES {
-            let record = withdrawal(code, subtype, V6).set_n("family", 0).record();
-            suite.bad(format!("{code}-{subtype}-family0"), &[], &record, 7);
+            let message = withdrawal(code, subtype, V6).set_n("family", 0);
+            suite.bad(format!("{code}-{subtype}-family0"), &[], message.wrong(7, "family"));
         }
     }
     let table = [plain_table(1).record()];
     for family in [0, 3, 258] {
         let route = generic_rib(family, 1, 0, &[], &[]);
-        suite.bad(format!("13-6-family{family}"), &table, &route.record(), 7);
+        suite.bad(format!("13-6-family{family}"), &table, route.wrong(7, "family"));
     }
     for family in [0, 256, 513, 65_535] {
         let change = state_change(16, 0, V4).set_n("family", family);
-        suite.bad(format!("16-0-family{family}"), &[], &change.record(), 7);
+        suite.bad(format!("16-0-family{family}"), &[], change.wrong(7, "family"));
     }
 }
 
 fn safis(suite: &mut Suite) {
     let table = [plain_table(1).record()];
-    let with = |family, safi| generic_rib(family, safi, 0, &[], &[]).record();
+    let with = |family, safi| generic_rib(family, safi, 0, &[], &[]);
     for safi in [0, 3, 128] {
-        suite.bad(format!("13-6-safi{safi}"), &table, &with(1, safi), 7);
+        suite.bad(format!("13-6-safi{safi}"), &table, with(1, safi).wrong(7, "safi"));
     }
-    let good = [with(1, 1), with(1, 2), with(2, 1), with(2, 2)];
+    let good = [(1, 1), (1, 2), (2, 1), (2, 2)].map(|(family, safi)| with(family, safi).record());
     suite.good("13-6-families-and-safis", &[&table[..], &good].concat());
 }
 
@@ -100,15 +100,19 @@ fn states(suite: &mut Suite) {
         }
     }
     let change = state_change(16, 0, V4);
-    suite.bad("16-0-ipv4-old259", &[], &change.set_n("old-state", 259).record(), 9);
-    suite.bad("16-0-ipv4-new256", &[], &change.set_n("new-state", 256).record(), 9);
-    suite.bad("16-0-ipv4-new65535", &[], &change.set_n("new-state", 65_535).record(), 9);
+    suite.bad("16-0-ipv4-old259", &[], bad_state(&change, "old-state", 259));
+    suite.bad("16-0-ipv4-new256", &[], bad_state(&change, "new-state", 256));
+    suite.bad("16-0-ipv4-new65535", &[], bad_state(&change, "new-state", 65_535));
+}
+
+fn bad_state(change: &Sketch, field: &str, state: u64) -> Slip {
+    change.set_n(field, state).wrong(9, field)
 }
 
 fn states_of(suite: &mut Suite, name: &str, change: &Sketch) {
     for state in [0, 7] {
-        suite.bad(format!("{name}-old{state}"), &[], &change.set_n("old-state", state).record(), 9);
-        suite.bad(format!("{name}-new{state}"), &[], &change.set_n("new-state", state).record(), 9);
+        suite.bad(format!("{name}-old{state}"), &[], bad_state(change, "old-state", state));
+        suite.bad(format!("{name}-new{state}"), &[], bad_state(change, "new-state", state));
     }
     let mut pairs = Vec::new();
     for old in 1..=6 {
@@ -162,14 +166,13 @@ fn rib_of(family: Family, subtype: u16, bits: u8, prefix: &[u8], routes: &[Route
 fn prefix_lengths(suite: &mut Suite) {
     for family in FAMILIES {
         let name = format!("12-{}-{}", family.code(), family_name(family));
-        let with =
-            |bits: u8| table_dump(family, &PATH).set_n("prefix-length", bits.into()).record();
+        let with = |bits: u8| table_dump(family, &PATH).set_n("prefix-length", bits.into());
         prefix_lengths_of(suite, &name, family, &[], with);
     }
     let table = [plain_table(2).record()];
     for (name, family, subtype) in rib_forms() {
         let routes = [Route(1, &PATH)];
-        let with = |bits| rib_of(family, subtype, bits, &ones(bits), &routes).record();
+        let with = |bits| rib_of(family, subtype, bits, &ones(bits), &routes);
         prefix_lengths_of(suite, name, family, &table, with);
     }
 }
@@ -179,23 +182,25 @@ fn prefix_lengths_of(
     name: &str,
     family: Family,
     before: &[Vec<u8>],
-    with: impl Fn(u8) -> Vec<u8>,
+    with: impl Fn(u8) -> Sketch,
 ) {
-    let records: Vec<_> = good_lengths(family).into_iter().map(&with).collect();
+    let records: Vec<_> = good_lengths(family).into_iter().map(|bits| with(bits).record()).collect();
     suite.good(format!("{name}-prefix-lengths"), &[before, &records].concat());
     for bits in bad_lengths(name, family) {
-        suite.bad(format!("{name}-prefix{bits}"), before, &with(bits), 8);
+        suite.bad(format!("{name}-prefix{bits}"), before, with(bits).wrong(8, "prefix-length"));
     }
 }
 
-/// A prefix with one octet too few or too many, in a record without entries.
+/// A prefix with one octet too few or too many, in a record without entries: a
+/// reader lacks the last octet of the count, or has one left behind it.
 fn prefix_octets(suite: &mut Suite) {
     let table = [plain_table(1).record()];
     for (name, family, subtype) in rib_forms().into_iter().step_by(2) {
-        let short = rib_of(family, subtype, 17, &[0; 2], &[]).record();
-        let long = rib_of(family, subtype, 16, &[0; 3], &[]).record();
-        suite.bad(format!("{name}-prefix17-in-2-octets"), &table, &short, 5);
-        suite.bad(format!("{name}-prefix16-in-3-octets"), &table, &long, 6);
+        let short = rib_of(family, subtype, 17, &[0; 3], &[]);
+        let short = short.cut_short(short.message().len() - 1);
+        let long = rib_of(family, subtype, 16, &[0; 2], &[]).too_long(&[0]);
+        suite.bad(format!("{name}-prefix17-in-2-octets"), &table, short);
+        suite.bad(format!("{name}-prefix16-in-3-octets"), &table, long);
     }
 }
 
@@ -234,24 +239,24 @@ fn untiled() -> Vec<(&'static str, Vec<u8>)> {
 
 fn attributes(suite: &mut Suite) {
     let table = [plain_table(2).record()];
-    let old = |octets: &[u8]| table_dump(V6, octets).record();
-    let new =
-        |octets: &[u8]| rib(2, 0, &[], &[Route(0, &EXTENDED_PATH), Route(1, octets)]).record();
+    let old = |octets: &[u8]| table_dump(V6, octets);
+    let new = |octets: &[u8]| rib(2, 0, &[], &[Route(0, &EXTENDED_PATH), Route(1, octets)]);
     for (case, octets) in untiled() {
-        suite.bad(format!("12-2-attributes-{case}"), &[], &old(&octets), 11);
-        suite.bad(format!("13-2-attributes-{case}"), &table, &new(&octets), 11);
+        let (old, new) = (old(&octets), new(&octets));
+        suite.bad(format!("12-2-attributes-{case}"), &[], old.wrong(11, "attributes"));
+        suite.bad(format!("13-2-attributes-{case}"), &table, new.wrong(11, "entry1-attributes"));
     }
-    let good: Vec<_> = tiling().iter().map(|octets| old(octets)).collect();
+    let good: Vec<_> = tiling().iter().map(|octets| old(octets).record()).collect();
     suite.good("12-2-attributes-that-tile", &good);
-    let good: Vec<_> = tiling().iter().map(|octets| new(octets)).collect();
+    let good: Vec<_> = tiling().iter().map(|octets| new(octets).record()).collect();
     suite.good("13-2-attributes-that-tile", &[&table[..], &good].concat());
     for (name, family, subtype) in rib_forms().into_iter().skip(1) {
         let routes = [Route(1, &[0x40, 1, 1]), Route(0, &PATH)];
-        let record = rib_of(family, subtype, 0, &[], &routes).record();
-        suite.bad(format!("{name}-attributes-one-short"), &table, &record, 11);
+        let slip = rib_of(family, subtype, 0, &[], &routes).wrong(11, "entry0-attributes");
+        suite.bad(format!("{name}-attributes-one-short"), &table, slip);
         let routes = [Route(1, &[]), Route(0, &[0x40, 1, 1, 0]), Route(1, &EXTENDED_PATH)];
         let record = rib_of(family, subtype, 0, &[], &routes).record();
-        one(suite, format!("{name}-attributes-of-three"), &table, record, 0);
+        suite.good(format!("{name}-attributes-of-three"), &[&table[..], &[record]].concat());
     }
 }
 
@@ -262,10 +267,12 @@ fn attribute_lengths(suite: &mut Suite) {
     let old = table_dump(V4, &tile);
     let new = rib(4, 0, &[], &[Route(0, &tile)]);
     for (size, fault) in [(0, 6), (3, 11), (4, 0), (5, 5), (65_535, 5)] {
-        let record = old.set_n("attribute-length", size).record();
-        one(suite, format!("12-1-attribute-length{size}-of-4"), &[], record, fault);
-        let record = new.set_n("entry0-attribute-length", size).record();
-        one(suite, format!("13-4-attribute-length{size}-of-4"), &table, record, fault);
+        let record = old.set_n("attribute-length", size);
+        let name = format!("12-1-attribute-length{size}-of-4");
+        suite.one(name, &[], &record, (fault, "attributes"));
+        let record = new.set_n("entry0-attribute-length", size);
+        let name = format!("13-4-attribute-length{size}-of-4");
+        suite.one(name, &table, &record, (fault, "entry0-attributes"));
     }
 }
 
@@ -279,8 +286,8 @@ fn bgp_lengths(suite: &mut Suite) {
     }
     let alive = keepalive(16, 1, V4);
     for (length, fault) in [(0, 10), (256, 5), (4096, 5), (4097, 10), (4865, 10), (65_535, 10)] {
-        let record = alive.set_n("bgp-length", length).record();
-        suite.bad(format!("16-1-ipv4-bgp-length{length}-of-19"), &[], &record, fault);
+        let slip = alive.set_n("bgp-length", length).wrong(fault, "bgp-length");
+        suite.bad(format!("16-1-ipv4-bgp-length{length}-of-19"), &[], slip);
     }
 }
 
@@ -289,10 +296,10 @@ fn bgp_lengths_of(suite: &mut Suite, name: &str, alive: &Sketch) {
     let longer = alive.set("bgp-rest", &[0]);
     let good = [alive.record(), longer.set_n("bgp-length", 20).record()];
     for (length, fault) in [(18, 10), (20, 5)] {
-        let record = alive.set_n("bgp-length", length).record();
-        suite.bad(format!("{name}-bgp-length{length}-of-19"), &good, &record, fault);
+        let slip = alive.set_n("bgp-length", length).wrong(fault, "bgp-length");
+        suite.bad(format!("{name}-bgp-length{length}-of-19"), &good, slip);
     }
-    suite.bad(format!("{name}-bgp-length19-of-20"), &good, &longer.record(), 6);
+    suite.bad(format!("{name}-bgp-length19-of-20"), &good, longer.wrong(6, "bgp-length"));
 }
 
 /// Messages about the largest size, with more and fewer octets there.
@@ -307,9 +314,9 @@ fn long_messages(suite: &mut Suite, code: u16) {
     ];
     for (length, there, fault) in cases {
         let record = bgp_message(code, 4, V6, 2, &vec![0x5a; there - 19]);
-        let record = record.set_n("bgp-length", length).record();
+        let record = record.set_n("bgp-length", length);
         let name = format!("{code}-4-ipv6-bgp-length{length}-of-{there}");
-        one(suite, name, &[], record, fault);
+        suite.one(name, &[], &record, (fault, "bgp-length"));
     }
 }
 
@@ -348,30 +355,49 @@ fn microseconds(suite: &mut Suite) {
 
 /// Length 0 to 4 where the message must open with microseconds.
 fn short_microseconds(suite: &mut Suite) {
+    let micro = |code| Sketch::new(code, 0).n("micro", 4, 5);
     for code in [17, 33, 49] {
-        let sketch = Sketch::new(code, 0).n("micro", 4, 5);
+        let sketch = micro(code);
         for size in [0, 3] {
-            suite.bad(format!("{code}-0-length{size}"), &[], &sketch.ending_at(size), 5);
+            suite.bad(format!("{code}-0-length{size}"), &[], sketch.cut_short(size));
         }
-        let fault = if code == 17 { 5 } else { 0 };
-        one(suite, format!("{code}-0-length4"), &[], sketch.record(), fault);
     }
+    suite.bad("17-0-length4", &[], micro(17).lacking("peer AS"));
+    suite.good("33-0-length4", &[micro(33).record()]);
+    suite.good("49-0-length4", &[micro(49).record()]);
 }
 
 fn peer_types(suite: &mut Suite) {
     let every: Vec<u8> = (0..=255).collect();
     suite.good("13-1-every-peer-type", &[peer_table(b"", &every).record()]);
     for octet in [0, 1, 254, 255] {
-        let table = peer_table(b"x", &[octet]);
-        let wrong = table.set_n("peer0-type", u64::from(octet ^ 1)).record();
-        let fault = if octet & 1 == 0 { 5 } else { 6 };
-        suite.bad(format!("13-1-peer-type{octet}-other-family"), &[], &wrong, fault);
-        let wrong = table.set_n("peer0-type", u64::from(octet ^ 2)).record();
-        let fault = if octet & 2 == 0 { 5 } else { 6 };
-        suite.bad(format!("13-1-peer-type{octet}-other-as-width"), &[], &wrong, fault);
+        suite.bad(format!("13-1-peer-type{octet}-other-family"), &[], other_family(octet));
+        suite.bad(format!("13-1-peer-type{octet}-other-as-width"), &[], other_as_width(octet));
     }
-    let table = peer_table(b"", &[1]).set("peer0-address", &address(V6, 1)[..15]);
-    suite.bad("13-1-address-one-short", &[], &table.record(), 5);
+    // A reader lacks the last octet of the AS number.
+    let whole = peer_table(b"", &[1]);
+    let table = whole.set("peer0-address", &address(V6, 1)[..15]);
+    let slip = Slip { octets: table.record(), ..whole.cut_short(whole.message().len() - 1) };
+    suite.bad("13-1-address-one-short", &[], slip);
+}
+
+/// A peer whose type octet tells the other family.
+fn other_family(octet: u8) -> Slip {
+    let told = peer_table(b"x", &[octet]).set_n("peer0-type", u64::from(octet ^ 1));
+    let width = if octet & 2 == 0 { 2 } else { 4 };
+    match octet & 1 {
+        0 => told.wrong(5, "peer0-address"),
+        _ => told.left_after("peer0-address", 4 + width),
+    }
+}
+
+/// A peer whose type octet tells the other size of an AS number.
+fn other_as_width(octet: u8) -> Slip {
+    let told = peer_table(b"x", &[octet]).set_n("peer0-type", u64::from(octet ^ 2));
+    match octet & 2 {
+        0 => told.wrong(5, "peer0-as"),
+        _ => told.left_after("peer0-as", 2),
+    }
 }
 
 fn view_names(suite: &mut Suite) {
@@ -387,13 +413,15 @@ fn view_names(suite: &mut Suite) {
         ("300-octets-ascii", &text, 0),
     ];
     for (name, octets, fault) in names {
-        let record = peer_table(octets, &[2, 3]).record();
-        one(suite, format!("13-1-view-name-{name}"), &[], record, fault);
+        let record = peer_table(octets, &[2, 3]);
+        suite.one(format!("13-1-view-name-{name}"), &[], &record, (fault, "name"));
     }
-    let table = peer_table(b"main", &[2]);
-    suite.bad("13-1-view-name-length65535", &[], &table.set_n("name-length", 65_535).record(), 5);
-    let bare = peer_table(b"main", &[]);
-    suite.bad("13-1-view-name-length5-of-4", &[], &bare.set_n("name-length", 5).record(), 5);
-    let zero = peer_table(&[0; 4], &[]);
-    suite.bad("13-1-view-name-length3-of-4", &[], &zero.set_n("name-length", 3).record(), 6);
+    let long = peer_table(b"main", &[2]).set_n("name-length", 65_535);
+    suite.bad("13-1-view-name-length65535", &[], long.wrong(5, "name"));
+    // The name takes an octet of the count, or the count one of the name.
+    let five = peer_table(b"main\0", &[]);
+    let half_count = five.cut_short(five.message().len() - 1);
+    suite.bad("13-1-view-name-length5-of-4", &[], half_count);
+    let three = peer_table(&[0; 3], &[]);
+    suite.bad("13-1-view-name-length3-of-4", &[], three.too_long(&[0]));
 }

@@ -3,6 +3,7 @@
 use super::rng::Rng;
 use super::shapes::{self, Depth, Shape};
 use super::sketch::Span;
+use super::slip::Slip;
 use super::Suite;
 
 pub fn add(suite: &mut Suite) {
@@ -46,11 +47,11 @@ fn picked(shape: &Shape, rng: &mut Rng) -> Vec<Span> {
 
 fn ends_at(suite: &mut Suite, shape: &Shape, how: &str, span: &Span, size: usize) {
     let name = format!("{}-{how}-{}", shape.name, span.name);
-    let record = shape.sketch.ending_at(size);
     if span.name == "contents" {
+        let record = shape.sketch.ending_at(size).record();
         suite.good(name, &[&shape.before[..], &[record]].concat());
     } else {
-        suite.bad(name, &shape.before, &record, 5);
+        suite.bad(name, &shape.before, shape.sketch.cut_short(size));
     }
 }
 
@@ -60,19 +61,20 @@ fn file_ends(suite: &mut Suite, shape: &Shape, rng: &mut Rng) {
     let inside = 12 + rng.below(record.len() - 12);
     let header = 1 + rng.below(11);
     let name = |what| format!("{}-file-{what}", shape.name);
-    suite.bad(name("ends-in-message"), &shape.before, &record[..inside], 2);
+    suite.bad(name("ends-in-message"), &shape.before, Slip::whole(2, &record[..inside]));
     if shape.depth == Depth::Full {
-        suite.bad(name("lacks-last-octet"), &shape.before, &record[..record.len() - 1], 2);
-        suite.bad(name("ends-in-header"), &shape.before, &record[..header], 1);
+        let shorter = Slip::whole(2, &record[..record.len() - 1]);
+        suite.bad(name("lacks-last-octet"), &shape.before, shorter);
+        suite.bad(name("ends-in-header"), &shape.before, Slip::whole(1, &record[..header]));
     }
 }
 
 fn too_long(suite: &mut Suite, shape: &Shape) {
     let name = format!("{}-one-too-many", shape.name);
-    let record = shape.sketch.followed_by(&[0]);
     if shape.is_unread() {
+        let record = shape.sketch.followed_by(&[0]).record();
         suite.good(name, &[&shape.before[..], &[record]].concat());
     } else {
-        suite.bad(name, &shape.before, &record, 6);
+        suite.bad(name, &shape.before, shape.too_long(&[0]));
     }
 }

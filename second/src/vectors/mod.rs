@@ -13,10 +13,13 @@ pub mod rng;
 pub(crate) mod sequences;
 pub(crate) mod shapes;
 pub(crate) mod sketch;
+pub(crate) mod slip;
 mod tables;
 
 use crate::files;
 use crate::listing::listing;
+use sketch::Sketch;
+use slip::Slip;
 use std::collections::{BTreeMap, BTreeSet};
 use std::io;
 use std::path::Path;
@@ -27,6 +30,10 @@ pub struct Intent {
     pub records: usize,
     pub fault: u8,
     pub place: usize,
+    /// Where the faulty record starts; the dump's length if there is none.
+    pub record: usize,
+    /// What the field with the fault is called.
+    pub field: Option<&'static str>,
 }
 
 pub struct Vector {
@@ -69,16 +76,40 @@ impl Suite {
     /// A dump of good records.
     fn good(&mut self, name: impl Into<String>, records: &[Vec<u8>]) {
         let octets = records.concat();
-        let intent = Intent { records: records.len(), fault: 0, place: octets.len() };
+        let size = octets.len();
+        let intent =
+            Intent { records: records.len(), fault: 0, place: size, record: size, field: None };
         self.insert(name.into(), octets, Some(intent));
     }
 
-    /// Good records, then one that gives the fault, and anything at all behind.
-    fn bad(&mut self, name: impl Into<String>, before: &[Vec<u8>], faulty: &[u8], fault: u8) {
+    /// Good records, then one with a fault, and anything at all behind.
+    fn bad(&mut self, name: impl Into<String>, before: &[Vec<u8>], slip: Slip) {
         let mut octets = before.concat();
-        let intent = Intent { records: before.len(), fault, place: octets.len() };
-        octets.extend(faulty);
+        let record = octets.len();
+        let intent = Intent {
+            records: before.len(),
+            fault: slip.fault,
+            place: record + slip.place,
+            record,
+            field: Some(slip.field),
+        };
+        octets.extend(slip.octets);
         self.insert(name.into(), octets, Some(intent));
+    }
+
+    /// A dump that is good when the fault is zero; else the named field has it.
+    fn one(
+        &mut self,
+        name: impl Into<String>,
+        before: &[Vec<u8>],
+        last: &Sketch,
+        (fault, field): (u8, &str),
+    ) {
+        if fault == 0 {
+            self.good(name, &[before, &[last.record()]].concat());
+        } else {
+            self.bad(name, before, last.wrong(fault, field));
+        }
     }
 
     /// Octets that nobody meant anything by.

@@ -1,6 +1,7 @@
 //! A good sketch of every layout.
 
 use super::sketch::Sketch;
+use super::slip::Slip;
 use crate::net::Family;
 
 pub const FAMILIES: [Family; 2] = [Family::V4, Family::V6];
@@ -180,7 +181,21 @@ impl Shape {
 
     /// Whether the end of the message is up to Length alone.
     pub fn is_unread(&self) -> bool {
-        self.sketch.spans().iter().any(|span| span.name == "contents")
+        self.has("contents")
+    }
+
+    /// The record with more behind it than it can hold: of a BGP message the length
+    /// is wrong then.
+    pub fn too_long(&self, extra: &[u8]) -> Slip {
+        if self.has("bgp-length") {
+            self.sketch.followed_by(extra).wrong(6, "bgp-length")
+        } else {
+            self.sketch.too_long(extra)
+        }
+    }
+
+    fn has(&self, name: &str) -> bool {
+        self.sketch.spans().iter().any(|span| span.name == name)
     }
 }
 

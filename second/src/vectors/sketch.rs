@@ -79,6 +79,11 @@ impl Sketch {
         changed
     }
 
+    /// Where the named field starts in the message.
+    pub fn start_of(&self, name: &str) -> usize {
+        self.spans().swap_remove(self.position(name)).start
+    }
+
     pub fn spans(&self) -> Vec<Span> {
         let mut start = 0;
         let mut spans = Vec::new();
@@ -101,27 +106,29 @@ impl Sketch {
 
     /// The record with a Length of the caller's choice; no octet goes or comes.
     pub fn claiming(&self, length: u32) -> Vec<u8> {
-        self.framed(length, &self.message())
-    }
-
-    /// The record with only the first octets of its message, Length corrected.
-    pub fn ending_at(&self, size: usize) -> Vec<u8> {
-        self.framed(size as u32, &self.message()[..size])
-    }
-
-    /// The record with something behind its last field, Length corrected.
-    pub fn followed_by(&self, extra: &[u8]) -> Vec<u8> {
-        self.clone().raw("extra", extra).record()
-    }
-
-    fn framed(&self, length: u32, message: &[u8]) -> Vec<u8> {
         let mut octets = self.timestamp.to_be_bytes().to_vec();
         octets.extend(self.code.to_be_bytes());
         octets.extend(self.subtype.to_be_bytes());
         octets.extend(length.to_be_bytes());
-        octets.extend(message);
+        octets.extend(self.message());
         octets
     }
+
+    /// The same record with only the first octets of its message.
+    pub fn ending_at(&self, size: usize) -> Sketch {
+        let mut changed = self.clone();
+        let spans = self.spans();
+        for (field, span) in changed.fields.iter_mut().zip(spans) {
+            field.octets.truncate(size.saturating_sub(span.start));
+        }
+        changed
+    }
+
+    /// The same record with something behind its last field.
+    pub fn followed_by(&self, extra: &[u8]) -> Sketch {
+        self.clone().raw("extra", extra)
+    }
+
 
     fn position(&self, name: &str) -> usize {
         let found = self.fields.iter().position(|field| field.name == name);
