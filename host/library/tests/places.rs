@@ -387,10 +387,12 @@ fn a_name_is_looked_for_in_any_octets() {
         let at = random.below(octets.len());
         octets[at] = random.word() as u8;
         octets.truncate(random.below(octets.len() + 1));
-        let record = *random.pick(&[*random.pick(&starts), any_number(&mut random)]);
-        let near = record.wrapping_add(random.below(60));
-        let place = *random.pick(&[near, any_number(&mut random)]);
-        let found = FirstFault { fault: *random.pick(&Fault::ALL), place, record, records: 0 };
+        let records = [*random.pick(&starts), any_number(&mut random)];
+        let record = *random.pick(&records);
+        let places = [record.wrapping_add(random.below(60)), any_number(&mut random)];
+        let place = *random.pick(&places);
+        let faults = [Fault::FieldIncomplete, *random.pick(&Fault::ALL)];
+        let found = FirstFault { fault: *random.pick(&faults), place, record, records: 0 };
         if found.field(&octets).is_some() {
             assert!(record <= place && place <= octets.len(), "{found:?}");
             named += 1;
