@@ -153,7 +153,7 @@ fn refusals_in_order() {
     let good = three_peers_and_entries();
     let broken = [&good[..], &[0; 12]].concat();
     assert_eq!(cut(&broken, 1, 0, &[], 0), refusal(14, 0));
-    assert_eq!(cut(&broken, 1, 1, &[], 0), refusal(3, good.len()));
+    assert_eq!(cut(&broken, 1, 1, &[], 0), refusal(3, good.len() + 4));
     assert_eq!(cut(&good[..70], 0, 0, &[], 0), refusal(1, 59));
     assert_eq!(cut(&good, 0, 0, &[], 58), refusal(15, 0));
     assert_eq!(cut(&good, 0, 0, &[], 59).octets, hex(THREE_PEERS));

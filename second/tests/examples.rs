@@ -74,27 +74,27 @@ fn eleven_zero_octets() {
 #[test]
 fn too_large() {
     assert_eq!(listing(&[0; 65_537]), "too large\n");
-    assert_eq!(listing(&[0; 65_536]), "fault=3 place=0\n");
+    assert_eq!(listing(&[0; 65_536]), "fault=3 place=4\n");
 }
 
 #[test]
 fn state_changes() {
     assert_eq!(fault(&state_change(20, "00 03 00 04")), (0, 32));
-    assert_eq!(fault(&state_change(20, "00 03 00 07")), (9, 0));
+    assert_eq!(fault(&state_change(20, "00 03 00 07")), (9, 30));
     assert_eq!(fault(&state_change(20, "00 03 00 06")), (0, 32));
-    assert_eq!(fault(&state_change(20, "00 00 00 04")), (9, 0));
+    assert_eq!(fault(&state_change(20, "00 00 00 04")), (9, 28));
     assert_eq!(fault(&state_change(20, "00 01 00 04")), (0, 32));
-    assert_eq!(fault(&state_change(19, "00 03 00 04")), (5, 0));
-    assert_eq!(fault(&state_change(19, "00 03 00")), (5, 0));
+    assert_eq!(fault(&state_change(19, "00 03 00 04")), (5, 30));
+    assert_eq!(fault(&state_change(19, "00 03 00")), (5, 30));
     let longer = state_change(21, "00 03 00 04 00");
     assert_eq!(longer.len(), 33);
-    assert_eq!(fault(&longer), (6, 0));
+    assert_eq!(fault(&longer), (6, 32));
     assert_eq!(fault(&state_change(21, "00 03 00 04")), (2, 0));
 }
 
 #[test]
 fn rib_without_entries_or_table() {
-    assert_eq!(fault(&record(13, 2, 7, "00 00 00 2a 00 00 00")), (12, 0));
+    assert_eq!(fault(&record(13, 2, 7, "00 00 00 2a 00 00 00")), (12, 6));
 }
 
 #[test]
@@ -116,8 +116,8 @@ fn largest_time() {
 fn attributes() {
     assert_eq!(fault(&old_route("")), (0, 34));
     assert_eq!(fault(&old_route("40 01 01 00")), (0, 38));
-    assert_eq!(fault(&old_route("40 01 01")), (11, 0));
-    assert_eq!(fault(&old_route("50 02 00")), (11, 0));
+    assert_eq!(fault(&old_route("40 01 01")), (11, 34));
+    assert_eq!(fault(&old_route("50 02 00")), (11, 34));
 }
 
 #[test]
@@ -127,7 +127,7 @@ fn indexes_of_two_peers() {
                 at=46 time=1000000 type=13 subtype=2 length=15\n\
                 fault=0 place=73\n";
     assert_eq!(listing(&with("00 01")), text);
-    assert_eq!(fault(&with("00 02")), (13, 46));
+    assert_eq!(fault(&with("00 02")), (13, 65));
 }
 
 #[test]
@@ -137,20 +137,20 @@ fn prefix_lengths() {
         fault(&[two_peers(), record].concat())
     };
     assert_eq!(with(9, "09 0a 80"), (0, 67));
-    assert_eq!(with(8, "09 0a"), (5, 46));
+    assert_eq!(with(8, "09 0a"), (5, 65));
     assert_eq!(with(11, "20 c0 00 02 01"), (0, 69));
-    assert_eq!(with(12, "21 c0 00 02 01 00"), (8, 46));
+    assert_eq!(with(12, "21 c0 00 02 01 00"), (8, 62));
 }
 
 #[test]
 fn bgp_lengths() {
     let text = "at=0 time=1000000 type=16 subtype=1 length=35\nfault=0 place=47\n";
     assert_eq!(listing(&bgp_message(19, 19)), text);
-    assert_eq!(fault(&bgp_message(18, 19)), (10, 0));
+    assert_eq!(fault(&bgp_message(18, 19)), (10, 44));
     assert_eq!(fault(&bgp_message(4096, 4096)), (0, 4124));
-    assert_eq!(fault(&bgp_message(4097, 4097)), (10, 0));
-    assert_eq!(fault(&bgp_message(20, 19)), (5, 0));
-    assert_eq!(fault(&bgp_message(19, 20)), (6, 0));
+    assert_eq!(fault(&bgp_message(4097, 4097)), (10, 44));
+    assert_eq!(fault(&bgp_message(20, 19)), (5, 44));
+    assert_eq!(fault(&bgp_message(19, 20)), (6, 44));
 }
 
 #[test]
@@ -171,7 +171,7 @@ fn subtypes_four_and_five_are_not_swapped() {
     let session = "00 00 fb f0 00 00 fb f1 00 00 00 01 c0 00 02 55 c6 33 64 04";
     let change = format!("{session} 00 03 00 04");
     assert_eq!(fault(&record(16, 5, 24, &change)), (0, 36));
-    assert_eq!(fault(&record(16, 4, 24, &change)), (5, 0));
+    assert_eq!(fault(&record(16, 4, 24, &change)), (5, 32));
 }
 
 /// A table without peers, and so many octets behind its name as `rest` has.
@@ -188,28 +188,28 @@ fn view_names() {
         assert_eq!(fault(&octets), (0, octets.len()), "{name}");
     }
     for name in ["80", "c0 af", "e0 9f bf", "ed a0 80", "f4 90 80 80", "f5", "ff", "64 e4 b8"] {
-        assert_eq!(fault(&named(name, "00 00")), (17, 0), "{name}");
+        assert_eq!(fault(&named(name, "00 00")), (17, 18), "{name}");
         // Before a peer count that is not there, and before octets that are left.
-        assert_eq!(fault(&named(name, "")), (17, 0), "{name}");
-        assert_eq!(fault(&named(name, "00")), (17, 0), "{name}");
-        assert_eq!(fault(&named(name, "00 00 00")), (17, 0), "{name}");
-        assert_eq!(fault(&named(name, "00 01 02")), (17, 0), "{name}");
+        assert_eq!(fault(&named(name, "")), (17, 18), "{name}");
+        assert_eq!(fault(&named(name, "00")), (17, 18), "{name}");
+        assert_eq!(fault(&named(name, "00 00 00")), (17, 18), "{name}");
+        assert_eq!(fault(&named(name, "00 01 02")), (17, 18), "{name}");
     }
-    assert_eq!(fault(&named("64", "00")), (5, 0));
+    assert_eq!(fault(&named("64", "00")), (5, 19));
 }
 
 #[test]
 fn view_names_that_the_message_ends_in() {
-    assert_eq!(fault(&record(13, 1, 8, "c6 33 64 04 00 03 ff ff")), (5, 0));
-    assert_eq!(fault(&record(13, 1, 9, "c6 33 64 04 00 03 ff ff ff")), (17, 0));
-    assert_eq!(fault(&record(13, 1, 9, "c6 33 64 04 00 04 ff ff ff")), (5, 0));
+    assert_eq!(fault(&record(13, 1, 8, "c6 33 64 04 00 03 ff ff")), (5, 18));
+    assert_eq!(fault(&record(13, 1, 9, "c6 33 64 04 00 03 ff ff ff")), (17, 18));
+    assert_eq!(fault(&record(13, 1, 9, "c6 33 64 04 00 04 ff ff ff")), (5, 18));
 }
 
-/// The first fault decides, and its place is the record's.
+/// The first fault decides, and its place is the name's.
 #[test]
 fn view_names_of_later_tables() {
     let octets = [two_peers(), named("ff", "00 00"), one_entry("00 01")].concat();
-    let text = "at=0 time=1000000 type=13 subtype=1 length=34\nfault=17 place=46\n";
+    let text = "at=0 time=1000000 type=13 subtype=1 length=34\nfault=17 place=64\n";
     assert_eq!(listing(&octets), text);
-    assert_eq!(fault(&[named("ff", "00 00"), one_entry("00 01")].concat()), (17, 0));
+    assert_eq!(fault(&[named("ff", "00 00"), one_entry("00 01")].concat()), (17, 18));
 }

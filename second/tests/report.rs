@@ -59,7 +59,7 @@ fn empty_dump() {
 
 #[test]
 fn faulty_and_large_dumps_are_one_line() {
-    assert_eq!(text(&[change(3, 4), change(3, 7)].concat()), "fault=9 place=32\n");
+    assert_eq!(text(&[change(3, 4), change(3, 7)].concat()), "fault=9 place=62\n");
     assert_eq!(text(&change(3, 4).repeat(2_048)), {
         "records=2048\nchanges=2048\nbreaks=0\nchange.3.4=2048\n"
     });

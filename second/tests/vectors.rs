@@ -5,16 +5,106 @@ use second::listing::listing;
 use second::sample;
 use second::vectors::rng::Rng;
 use second::vectors::{Intent, Suite};
+use std::collections::BTreeSet;
+
+/// What the reader finds, in a maker's words.
+fn found(octets: &[u8]) -> Intent {
+    let dump = Dump::read(octets);
+    let End { place, record, field, .. } = dump.end;
+    Intent { records: dump.records.len(), fault: dump.end.number(), place, record, field }
+}
 
 #[test]
 fn readings_are_as_meant() {
     for (name, vector) in Suite::generate().iter() {
         let Some(intent) = vector.intent else { continue };
-        let dump = Dump::read(&vector.octets);
-        let End { place, record, field, .. } = dump.end;
-        let (records, fault) = (dump.records.len(), dump.end.number());
-        assert_eq!(Intent { records, fault, place, record, field }, intent, "{name}");
+        assert_eq!(found(&vector.octets), intent, "{name}");
     }
+}
+
+/// Every layout at every octet of its message.
+#[test]
+fn every_cut_is_as_meant() {
+    let suite = Suite::of_every_cut();
+    for (name, vector) in suite.iter() {
+        assert_eq!(Some(found(&vector.octets)), vector.intent, "{name}");
+    }
+    assert!(suite.iter().count() > 3_000);
+}
+
+/// Only what chance made has no meaning.
+#[test]
+fn nearly_all_have_a_meaning() {
+    let suite = Suite::generate();
+    let without = suite.iter().filter(|(_, vector)| vector.intent.is_none());
+    let names: Vec<&str> = without.map(|(name, _)| name).collect();
+    let chance = ["random-spoiled-", "random-octets-", "size-65537"];
+    assert!(names.iter().all(|name| chance.iter().any(|start| name.starts_with(start))));
+    assert_eq!(names.len(), 45);
+}
+
+/// The fields that can be incomplete, in the order of the layouts.
+const FIELDS: [&str; 29] = [
+    "microseconds",
+    "view",
+    "sequence",
+    "prefix",
+    "prefix length",
+    "status",
+    "originated time",
+    "peer address",
+    "peer AS",
+    "attribute length",
+    "attributes",
+    "collector ID",
+    "view name length",
+    "view name",
+    "peer count",
+    "peer type",
+    "peer BGP ID",
+    "address family",
+    "SAFI",
+    "entry count",
+    "peer index",
+    "local AS",
+    "interface index",
+    "local address",
+    "old state",
+    "new state",
+    "BGP marker",
+    "BGP length",
+    "BGP type",
+];
+
+/// What else a fault can be of.
+const OTHERS: [(u8, &str); 16] = [
+    (1, "record"),
+    (2, "record"),
+    (3, "Type"),
+    (4, "Subtype"),
+    (6, "octets left over"),
+    (6, "BGP length"),
+    (7, "address family"),
+    (7, "SAFI"),
+    (8, "prefix length"),
+    (9, "old state"),
+    (9, "new state"),
+    (10, "BGP length"),
+    (11, "attributes"),
+    (12, "Subtype"),
+    (13, "peer index"),
+    (17, "view name"),
+];
+
+/// Every field with every fault that it can have.
+#[test]
+fn every_field_is_meant_somewhere() {
+    let suite = Suite::generate();
+    let intents = suite.iter().filter_map(|(_, vector)| vector.intent);
+    let meant: BTreeSet<(u8, &str)> =
+        intents.filter_map(|intent| Some((intent.fault, intent.field?))).collect();
+    let all = FIELDS.into_iter().map(|field| (5, field)).chain(OTHERS);
+    assert_eq!(meant, all.collect());
 }
 
 #[test]

@@ -99,7 +99,8 @@ fn longest_names(book: &mut Book) {
     name.resize(65_535, b'z');
     let with = |name: &[u8], numbers: &[u32]| named_table(name, &members(numbers));
     let ask = Ask::whole().muting(&[20]);
-    let [dump, left] = [[10, 20, 30].as_slice(), &[10, 30]].map(|peers| with(&name, peers).record());
+    let [dump, left] =
+        [[10, 20, 30].as_slice(), &[10, 30]].map(|peers| with(&name, peers).record());
     book.left("large-name-65535", &ask, &[dump], &[left]);
     name[65_534] = 0xbf;
     let slip = with(&name, &[10, 20, 30]).wrong(17, "name");

@@ -184,7 +184,8 @@ fn prefix_lengths_of(
     before: &[Vec<u8>],
     with: impl Fn(u8) -> Sketch,
 ) {
-    let records: Vec<_> = good_lengths(family).into_iter().map(|bits| with(bits).record()).collect();
+    let records: Vec<_> =
+        good_lengths(family).into_iter().map(|bits| with(bits).record()).collect();
     suite.good(format!("{name}-prefix-lengths"), &[before, &records].concat());
     for bits in bad_lengths(name, family) {
         suite.bad(format!("{name}-prefix{bits}"), before, with(bits).wrong(8, "prefix-length"));

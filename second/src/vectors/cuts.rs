@@ -1,10 +1,11 @@
 //! Every layout as it should be, too short, and too long.
 
 use super::rng::Rng;
-use super::shapes::{self, Depth, Shape};
+use super::shapes::{self, state_change, Depth, Shape};
 use super::sketch::Span;
 use super::slip::Slip;
 use super::Suite;
+use crate::net::Family::V4;
 
 pub fn add(suite: &mut Suite) {
     let mut rng = Rng::seeded(6396);
@@ -13,6 +14,22 @@ pub fn add(suite: &mut Suite) {
         ends_early(suite, &shape, &mut rng);
         file_ends(suite, &shape, &mut rng);
         too_long(suite, &shape);
+    }
+}
+
+/// Every layout that stops at every octet, alone, before a good record and behind one
+/// with microseconds: more than are worth a file.
+pub fn at_every_octet(suite: &mut Suite) {
+    let other = state_change(17, 5, V4).record();
+    for shape in shapes::all() {
+        let later = [&[other.clone()], &shape.before[..]].concat();
+        for size in shape.sizes_too_short() {
+            let slip = shape.sketch.cut_short(size);
+            let name = |how| format!("{}-{size}-{how}", shape.name);
+            suite.bad(name("alone"), &shape.before, slip.clone());
+            suite.bad(name("first"), &shape.before, slip.clone().then(&other));
+            suite.bad(name("later"), &later, slip);
+        }
     }
 }
 
@@ -30,6 +47,10 @@ fn ends_early(suite: &mut Suite, shape: &Shape, rng: &mut Rng) {
         }
         if size > 1 {
             ends_at(suite, shape, "ends-inside", &span, span.start + 1 + rng.below(size - 1));
+        }
+        if shape.depth == Depth::Full && size > 2 && span.name != "contents" {
+            ends_at(suite, shape, "ends-one-into", &span, span.start + 1);
+            ends_at(suite, shape, "ends-one-short-of", &span, span.end - 1);
         }
     }
 }

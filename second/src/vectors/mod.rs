@@ -5,6 +5,7 @@ mod bits;
 mod checks;
 mod cuts;
 mod examples;
+mod fields;
 mod names;
 mod order;
 mod places;
@@ -61,7 +62,15 @@ impl Suite {
         names::add(&mut suite);
         order::add(&mut suite);
         places::add(&mut suite);
+        fields::add(&mut suite);
         random::add(&mut suite);
+        suite
+    }
+
+    /// Every layout cut short everywhere; tests try them, and nothing stores them.
+    pub fn of_every_cut() -> Suite {
+        let mut suite = Suite::default();
+        cuts::at_every_octet(&mut suite);
         suite
     }
 

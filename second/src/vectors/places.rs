@@ -52,7 +52,7 @@ fn later_records(suite: &mut Suite) {
     suite.bad("third-record-fault12", &no_table, route.wrong_subtype(12));
 }
 
-fn one_of_each() -> Vec<Slip> {
+pub fn one_of_each() -> Vec<Slip> {
     let change = state_change(17, 5, V6);
     vec![
         Slip::whole(1, &change.record()[..7]),

@@ -3,6 +3,7 @@
 use super::sketch::Sketch;
 use super::slip::Slip;
 use crate::net::Family;
+use std::ops::Range;
 
 pub const FAMILIES: [Family; 2] = [Family::V4, Family::V6];
 pub const MESSAGES: [u16; 4] = [1, 4, 6, 7];
@@ -85,6 +86,7 @@ pub fn plain_table(count: usize) -> Sketch {
 }
 
 /// One RIB entry: the peer's index and its attributes.
+#[derive(Clone, Copy)]
 pub struct Route<'a>(pub u16, pub &'a [u8]);
 
 pub fn rib(subtype: u16, bits: u8, prefix: &[u8], routes: &[Route]) -> Sketch {
@@ -152,7 +154,7 @@ pub fn withdrawal(code: u16, subtype: u16, family: Family) -> Sketch {
 /// How thoroughly a shape is cut short.
 #[derive(Clone, Copy, PartialEq, Eq)]
 pub enum Depth {
-    /// Before and inside every field.
+    /// Before and inside every field, one octet into it and one short of its end.
     Full,
     /// Once in every field.
     Each,
@@ -182,6 +184,12 @@ impl Shape {
     /// Whether the end of the message is up to Length alone.
     pub fn is_unread(&self) -> bool {
         self.has("contents")
+    }
+
+    /// How many octets of the message are too few.
+    pub fn sizes_too_short(&self) -> Range<usize> {
+        let contents = self.is_unread().then(|| self.sketch.start_of("contents"));
+        0..contents.unwrap_or(self.sketch.message().len())
     }
 
     /// The record with more behind it than it can hold: of a BGP message the length
@@ -221,7 +229,7 @@ fn unread_shapes() -> Vec<Shape> {
 fn table_shapes() -> Vec<Shape> {
     vec![
         Shape::new("12-1-ipv4".into(), table_dump(Family::V4, &PATH), Depth::Full),
-        Shape::new("12-2-ipv6".into(), table_dump(Family::V6, &EXTENDED_PATH), Depth::Each),
+        Shape::new("12-2-ipv6".into(), table_dump(Family::V6, &EXTENDED_PATH), Depth::Full),
         Shape::new("13-1-named".into(), peer_table(b"rrc-9", &[0, 3]), Depth::Full),
         Shape::new("13-1-unnamed".into(), peer_table(b"", &[2, 1]), Depth::Each),
     ]
@@ -237,7 +245,7 @@ fn rib_shapes() -> Vec<Shape> {
         ("13-3-ipv4", rib(3, 23, &v4, &routes), Depth::Few),
         ("13-4-ipv6", rib(4, 33, &v6, &routes), Depth::Each),
         ("13-5-ipv6", rib(5, 40, &v6, &routes), Depth::Few),
-        ("13-6-ipv4", generic_rib(1, 1, 24, &v4, &routes), Depth::Each),
+        ("13-6-ipv4", generic_rib(1, 1, 24, &v4, &routes), Depth::Full),
         ("13-6-ipv6", generic_rib(2, 2, 36, &v6, &routes), Depth::Each),
     ]
     .into_iter()
@@ -266,9 +274,8 @@ fn bgp4mp_shapes(code: u16) -> Vec<Shape> {
 
 fn bgp4mp_depth(code: u16, subtype: u16, family: Family) -> Depth {
     match (code, subtype, family) {
-        (16, 0 | 1, Family::V4) => Depth::Full,
-        (16, 4 | 5, Family::V6) => Depth::Each,
-        (17, 0, Family::V4) | (17, 1, Family::V6) => Depth::Each,
+        (16, 0 | 1, Family::V4) | (16, 4, Family::V6) | (17, 0, Family::V4) => Depth::Full,
+        (16, 5, Family::V6) | (17, 1, Family::V6) => Depth::Each,
         _ => Depth::Few,
     }
 }

@@ -129,7 +129,6 @@ impl Sketch {
         self.clone().raw("extra", extra)
     }
 
-
     fn position(&self, name: &str) -> usize {
         let found = self.fields.iter().position(|field| field.name == name);
         found.unwrap_or_else(|| panic!("no field {name}"))
