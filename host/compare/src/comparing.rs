@@ -30,6 +30,9 @@ const SESSIONS: u64 = 0x5e55_1075;
 /// The same for those made for their view names.
 const NAMES: u64 = 0x4a3e_5017;
 
+/// The same for those made for a fault's place.
+const PLACES: u64 = 0x91ac_e000;
+
 /// Both answers to a call, and the dump it was made with.
 #[derive(Debug)]
 pub struct Difference {
@@ -46,8 +49,8 @@ impl fmt::Display for Difference {
 }
 
 /// Makes a dump from a seed and compares all calls with it; then the writers with fields of their
-/// own, the report with dumps of its own, names with tables of their own, and a list with a dump of
-/// its own.
+/// own, the report with dumps of its own, names with tables of their own, and places and a list with
+/// a dump of their own.
 pub fn compare_seed(seed: u64, desks: &mut Desks, tally: &mut Tally) -> Result<(), Difference> {
     let mut rng = Rng::seeded(seed);
     let made = making::any(&mut rng);
@@ -62,6 +65,9 @@ pub fn compare_seed(seed: u64, desks: &mut Desks, tally: &mut Tally) -> Result<(
         .map_err(|(dump, told)| differs(&dump, told))?;
     let calls = NameCalls { check: &calls::check, write: &writing::written };
     naming::compare(calls, &mut Rng::seeded(seed ^ NAMES), desks, tally)
+        .map_err(|(dump, told)| differs(&dump, told))?;
+    let mut apart = Rng::seeded(seed ^ PLACES);
+    placing::compare_ended(&calls::first_fault, &mut apart, &mut desks.dump, tally)
         .map_err(|(dump, told)| differs(&dump, told))?;
     muting::compare(&calls::cut, seed, &mut desks.dump, tally)
         .map_err(|(dump, told)| differs(&dump, told))?;

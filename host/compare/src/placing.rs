@@ -1,11 +1,25 @@
 //! Where a dump's first fault is, and what its field is called, by both programs.
 
-use crate::desk::{Desk, FirstFaultCall};
+use crate::desk::{Desk, FirstFaultCall, Spots};
 use crate::expected;
+use crate::making::ended;
 use crate::tally::Tally;
 use crate::telling::{same, Told};
 use dagsumilat::{Fault, FirstFault};
 use second::dump::Dump;
+use second::vectors::rng::Rng;
+
+/// A dump made for its place: a record of it ends inside a field.
+pub fn compare_ended(
+    call: FirstFaultCall,
+    rng: &mut Rng,
+    desk: &mut Desk,
+    tally: &mut Tally,
+) -> Result<(), (Vec<u8>, String)> {
+    let dump = ended(rng);
+    desk.lay(&dump, Spots::draw(rng));
+    compare(call, &dump, &Dump::read(&dump), desk, tally).map_err(|told| (dump, told))
+}
 
 /// The laid dump: number, place, records and the faulty record; then the field's name.
 pub fn compare(

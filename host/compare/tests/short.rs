@@ -120,6 +120,8 @@ fn fields_are_telling(tally: &Tally) {
     expected.extend([(13, "peer index"), (17, "view name")]);
     let met: BTreeSet<_> = tally.failed.keys().copied().collect();
     assert_eq!(met, expected, "{tally}");
+    let is_rare = |name: &&str| tally.failed[&(5, *name)] * 300 < tally.dumps;
+    assert_eq!(FIELDS.iter().find(|name| is_rare(name)), None, "rarely incomplete:\n{tally}");
 }
 
 /// Many names are text and many are not; some tables end in the name or behind it.

@@ -2,7 +2,7 @@
 //! fault. A mistaken call asks the library and moves a word of its answer.
 
 use compare::desk::{Desk, Spots};
-use compare::making::{any, with_fields_damaged};
+use compare::making::{any, ended, with_fields_damaged};
 use compare::placing::{compare, found as first_fault};
 use compare::tally::Tally;
 use dagsumilat::{calls, records};
@@ -200,7 +200,7 @@ impl Faulty<'_> {
 fn dumps(seed: u64) -> Vec<Vec<u8>> {
     let rng = &mut Rng::seeded(seed);
     let mut dumps = with_fields_damaged(DAMAGED, rng);
-    dumps.push(any(rng).dump);
+    dumps.extend([ended(rng), any(rng).dump]);
     dumps
 }
 
