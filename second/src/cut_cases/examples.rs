@@ -18,13 +18,16 @@ fn empty(book: &mut Book) {
     book.refused("example-11-zero-octets", &Ask::whole(), 11, &[0; 11], (1, 0));
 }
 
+/// A name, the numbers listed, those kept, and the entries that are left.
+type Muting = (&'static str, &'static [u32], &'static [u32], &'static [(u16, u8)]);
+
 /// Peers 10, 20, 30 and one record with an entry of each. The table is older
 /// than the window.
 fn three_peers(book: &mut Book) {
     let peers = members(&[10, 20, 30]);
     let dump = [table(&peers).at(3), rib(2, &[(0, 1), (1, 2), (2, 3)]).at(5)];
     let ask = Ask::window(5_000_000, 6_000_000);
-    let cases: [(&str, &[u32], &[u32], &[(u16, u8)]); 7] = [
+    let cases: [Muting; 7] = [
         ("none", &[], &[10, 20, 30], &[(0, 1), (1, 2), (2, 3)]),
         ("10", &[10], &[20, 30], &[(0, 2), (1, 3)]),
         ("20", &[20], &[10, 30], &[(0, 1), (1, 3)]),
@@ -64,7 +67,8 @@ fn incident(book: &mut Book) {
     let dump = sample::octets();
     let noon = 1_772_366_400_000_000;
     let room = dump.len();
-    book.left("sample-whole", &Ask::whole(), &[dump.clone()], &[dump.clone()]);
+    let whole = std::slice::from_ref(&dump);
+    book.left("sample-whole", &Ask::whole(), whole, whole);
     let second = Ask::window(noon + 11_000, noon + 1_011_000);
     book.chance("sample-second", &second, room, dump.clone());
     let quiet = Ask::window(noon - 300_000_000, noon + 11_001).muting(&[65_536, 64_505]);

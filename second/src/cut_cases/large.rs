@@ -39,7 +39,7 @@ fn many_muted(book: &mut Book) {
         let entries: Vec<_> = (0..).zip(numbers).map(|(index, asn)| (index, asn as u8)).collect();
         octets(&[table(&members), rib(2, &entries)])
     };
-    let even = |asn: &u32| asn % 2 == 0;
+    let even = |asn: &u32| asn.is_multiple_of(2);
     let muted: Vec<u32> = (1..=600).rev().filter(even).collect();
     let ask = Ask::whole().muting(&muted);
     let left = records((1..=600).filter(|asn| !even(asn)).collect());

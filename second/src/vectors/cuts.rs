@@ -22,7 +22,7 @@ pub fn add(suite: &mut Suite) {
 pub fn at_every_octet(suite: &mut Suite) {
     let other = state_change(17, 5, V4).record();
     for shape in shapes::all() {
-        let later = [&[other.clone()], &shape.before[..]].concat();
+        let later = [std::slice::from_ref(&other), &shape.before[..]].concat();
         for size in shape.sizes_too_short() {
             let slip = shape.sketch.cut_short(size);
             let name = |how| format!("{}-{size}-{how}", shape.name);
