@@ -1,7 +1,7 @@
 //! A fault in words: what it means, what it often comes from, and what a person can do.
 
 use crate::header::Header;
-use crate::{excerpt, view_name};
+use crate::{bgp_length, excerpt, view_name};
 use dagsumilat::{first_fault, Fault, FirstFault};
 
 /// The words for a dump that was refused with this fault. One that is not the dump's own, as that
@@ -27,6 +27,7 @@ fn seen(dump: &[u8], found: &FirstFault) -> String {
     if found.fault == Fault::ViewName {
         lines.extend(view_name::told(dump, found.place));
     }
+    lines.extend(bgp_length::told(dump, found));
     lines.push(before(found));
     lines.iter().map(|line| format!("\n  {line}")).collect()
 }

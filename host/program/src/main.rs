@@ -7,6 +7,7 @@ mod advice;
 mod archive;
 mod arguments;
 mod as_number;
+mod bgp_length;
 mod cut;
 mod excerpt;
 mod header;

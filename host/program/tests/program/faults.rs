@@ -160,6 +160,15 @@ Type 13, Subtype 1, Length 125.
     run_fed(&["check", "-"], &[change(1, 64_496), table].concat()).ended(1).told(shown);
 }
 
+/// The field is there, and what it says does not fit.
+#[test]
+fn a_bgp_length_that_disagrees_is_told_with_both_numbers() {
+    run_fed(&["check", "-"], &message(1, 64_500, 20))
+        .ended(1)
+        .told("fault 5 at octet 44 (0x2c)")
+        .told("\n  The BGP message's length is 20; the record has 19 octets of it.\n");
+}
+
 #[test]
 fn a_backward_window() {
     let folder = Folder::new("backward");
