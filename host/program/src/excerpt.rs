@@ -41,7 +41,7 @@ impl Excerpt<'_> {
     fn row(&self, start: usize, size: usize) -> String {
         let mut text = format!("{start:08x} ");
         let octets = self.dump.get(start..).unwrap_or_default();
-        for (at, octet) in (start..).zip(octets.iter().take(size)) {
+        for (octet, at) in octets.iter().take(size).zip(start..) {
             let behind_mark = at > start && at - 1 == self.found.place;
             let edge = if behind_mark { ']' } else { self.edge(at) };
             let _ = write!(text, "{edge}{octet:02x}");
