@@ -20,16 +20,18 @@ pub fn add(suite: &mut Suite) {
 /// Every layout that stops at every octet, alone, before a good record and behind one
 /// with microseconds: more than are worth a file.
 pub fn at_every_octet(suite: &mut Suite) {
+    shapes::all().iter().for_each(|shape| at_every_octet_of(suite, shape));
+}
+
+fn at_every_octet_of(suite: &mut Suite, shape: &Shape) {
     let other = state_change(17, 5, V4).record();
-    for shape in shapes::all() {
-        let later = [std::slice::from_ref(&other), &shape.before[..]].concat();
-        for size in shape.sizes_too_short() {
-            let slip = shape.sketch.cut_short(size);
-            let name = |how| format!("{}-{size}-{how}", shape.name);
-            suite.bad(name("alone"), &shape.before, slip.clone());
-            suite.bad(name("first"), &shape.before, slip.clone().then(&other));
-            suite.bad(name("later"), &later, slip);
-        }
+    let later = [std::slice::from_ref(&other), &shape.before[..]].concat();
+    for size in shape.sizes_too_short() {
+        let slip = shape.sketch.cut_short(size);
+        let name = |how| format!("{}-{size}-{how}", shape.name);
+        suite.bad(name("alone"), &shape.before, slip.clone());
+        suite.bad(name("first"), &shape.before, slip.clone().then(&other));
+        suite.bad(name("later"), &later, slip);
     }
 }
 
