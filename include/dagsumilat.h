@@ -11,6 +11,23 @@
  * - `out`, `report` and `answer` must not overlap with each other or with what is read.
  * - Offsets count from the dump's first octet, or the record's where a call takes one record. Times are in microseconds since 1970,
  *   UTC; a Timestamp is in seconds.
+ *
+ * A fault's place is the first octet of the field that failed. By number:
+ *    1, 2   the record
+ *    3      its Type
+ *    4, 12  its Subtype
+ *    5      the field that is incomplete, also where none of it is there: then the place is where the record ends
+ *    6      the first octet left over
+ *    7      that address family or SAFI
+ *    8      the prefix length
+ *    9      that state
+ *    10     the BGP message's length
+ *    11     the attributes that do not fill their octets: their first octet, not that of the bad one
+ *    13     that peer index
+ *    17     the view name: its first octet, not the first that is not text
+ *    5, 6   where a BGP message's length is more or less than the record's octets from the marker on: that length
+ * Each of a BGP message's marker, length and type is a field of its own, and 10 is asked once all three are there.
+ * 14, 15 and 16 have the place 0.
  */
 #ifndef DAGSUMILAT_H
 #define DAGSUMILAT_H
@@ -51,10 +68,24 @@ enum dagsumilat_fault {
  * Checks a whole dump.
  *
  * answer[0]  0, or the first faulty record's number, 1 to 13 or 17
- * answer[1]  the dump's length, or where the faulty record starts
+ * answer[1]  the dump's length, or the fault's place
  * answer[2]  how many good records stand before
  */
 void dagsumilat_check(const uint8_t *dump, size_t dump_len, uint64_t answer[3]);
+
+/*
+ * Checks a whole dump, and says where the faulty record starts. So a caller of dagsumilat_check, dagsumilat_cut or dagsumilat_report
+ * who has got a number from 1 to 13 or 17 finds the record that has the fault: by this call, with the same dump. Number and place are
+ * the same.
+ *
+ * answer[0]  0, or the first faulty record's number, 1 to 13 or 17
+ * answer[1]  the dump's length, or the fault's place
+ * answer[2]  how many good records stand before
+ * answer[3]  the dump's length, or where the faulty record starts
+ *
+ * The dump's first answer[3] octets are always a good dump, of answer[2] records.
+ */
+void dagsumilat_first_fault(const uint8_t *dump, size_t dump_len, uint64_t answer[4]);
 
 /*
  * Counts a dump by itself and adds what it counted to `report`. For a report over many dumps begin with 39 zeros and hand over one dump
@@ -67,7 +98,7 @@ void dagsumilat_check(const uint8_t *dump, size_t dump_len, uint64_t answer[3]);
  * report[3 + 6 * (old - 1) + new - 1]  state changes from state `old` to state `new`, each 1 to 6
  *
  * answer[0]  0, or the dump's number, or 16 where any of the 39 sums passes 64 bits; `report` as it was on a refusal
- * answer[1]  the dump's length, or where the dump's faulty record starts; 0 with 16
+ * answer[1]  the dump's length, or the place of the dump's fault; 0 with 16
  */
 void dagsumilat_report(const uint8_t *dump, size_t dump_len, uint64_t report[39], uint64_t answer[2]);
 
@@ -77,7 +108,7 @@ void dagsumilat_report(const uint8_t *dump, size_t dump_len, uint64_t report[39]
  * however long dump and list are.
  *
  * answer[0]  0, or 14, the dump's number or 15, asked in this order
- * answer[1]  0, or where the dump's faulty record starts
+ * answer[1]  0, or the place of the dump's fault
  * answer[2]  how many octets were written, from out[0] on; 0 and `out` as it was on a refusal
  */
 void dagsumilat_cut(const uint8_t *dump, size_t dump_len, uint64_t from, uint64_t to, const uint32_t *mutes, size_t mutes_len,
@@ -88,7 +119,8 @@ void dagsumilat_cut(const uint8_t *dump, size_t dump_len, uint64_t from, uint64_
  * answer[2] in the next call, while at < dump_len and answer[0] is 0.
  *
  * answer[0]  0, or the record's fault, 1 to 13 or 17
- * answer[1]  where the next record starts; `at` on a fault, and where at >= dump_len
+ * answer[1]  where the next record starts, or the fault's place, counted from the dump's first octet: the faulty record starts at the
+ *            `at` that was handed over; `at` where at >= dump_len
  * answer[2]  the table in force behind the record: its number of peers, or DAGSUMILAT_NONE
  * answer[3]  time
  * answer[4]  Type; 0 where there is no good record, as in [3], [5], [6], [8] and [9]
@@ -147,10 +179,10 @@ enum dagsumilat_kind {
  * it: its number of peers, or DAGSUMILAT_NONE; it matters for RIB records only.
  *
  * A part is two words: where it lies, counted from the record's header, and its size. An empty part has the offset where it would lie.
- * All words that a kind does not have are 0; on a fault, and where there are no octets, all but answer[0].
+ * All words that a kind does not have are 0; where there are no octets, all are, and on a fault all but answer[0] and answer[1].
  *
  * answer[0]   0, or the record's fault, 1 to 13 or 17
- * answer[1]   where the record ends, 12 more than Length
+ * answer[1]   where the record ends, 12 more than Length; or the fault's place, counted from the record's header
  * answer[2]   kind
  * answer[3]   Timestamp
  * answer[4]   Type

@@ -33,12 +33,12 @@ pub fn dump_with(dump: &[u8], mut each: impl FnMut(&Record)) -> Answer {
         rest = after;
         records += 1;
     }
-    let fault = if rest.is_empty() { 0 } else { fault(rest, table) };
-    Answer { fault, place: (dump.len() - rest.len()) as u64, records }
+    let (fault, field) = if rest.is_empty() { (0, 0) } else { fault(rest, table) };
+    Answer { fault, place: (dump.len() - rest.len() + field) as u64, records }
 }
 
-fn fault(rest: &[u8], table: Option<u16>) -> u64 {
-    plain_fault::number(rest, table).expect("a record that is not good, and has no fault")
+fn fault(rest: &[u8], table: Option<u16>) -> (u64, usize) {
+    plain_fault::found(rest, table).expect("a record that is not good, and has no fault")
 }
 
 pub struct Record<'a> {

@@ -8,6 +8,7 @@ use crate::itself;
 use crate::making;
 use crate::muting;
 use crate::naming::{self, NameCalls};
+use crate::placing;
 use crate::reading;
 use crate::reporting;
 use crate::tally::Tally;
@@ -29,6 +30,9 @@ const SESSIONS: u64 = 0x5e55_1075;
 /// The same for those made for their view names.
 const NAMES: u64 = 0x4a3e_5017;
 
+/// The same for those made for a fault's place.
+const PLACES: u64 = 0x91ac_e000;
+
 /// Both answers to a call, and the dump it was made with.
 #[derive(Debug)]
 pub struct Difference {
@@ -45,8 +49,8 @@ impl fmt::Display for Difference {
 }
 
 /// Makes a dump from a seed and compares all calls with it; then the writers with fields of their
-/// own, the report with dumps of its own, names with tables of their own, and a list with a dump of
-/// its own.
+/// own, the report with dumps of its own, names with tables of their own, and places and a list with
+/// a dump of their own.
 pub fn compare_seed(seed: u64, desks: &mut Desks, tally: &mut Tally) -> Result<(), Difference> {
     let mut rng = Rng::seeded(seed);
     let made = making::any(&mut rng);
@@ -61,6 +65,9 @@ pub fn compare_seed(seed: u64, desks: &mut Desks, tally: &mut Tally) -> Result<(
         .map_err(|(dump, told)| differs(&dump, told))?;
     let calls = NameCalls { check: &calls::check, write: &writing::written };
     naming::compare(calls, &mut Rng::seeded(seed ^ NAMES), desks, tally)
+        .map_err(|(dump, told)| differs(&dump, told))?;
+    let mut apart = Rng::seeded(seed ^ PLACES);
+    placing::compare_ended(&calls::first_fault, &mut apart, &mut desks.dump, tally)
         .map_err(|(dump, told)| differs(&dump, told))?;
     muting::compare(&calls::cut, seed, &mut desks.dump, tally)
         .map_err(|(dump, told)| differs(&dump, told))?;
@@ -86,6 +93,7 @@ pub fn compare_dump(dump: &[u8], rng: &mut Rng, desks: &mut Desks, tally: &mut T
     reading::compare(dump, &read, rng, desks, tally)?;
     let desk = &mut desks.dump;
     same(|| "check".into(), desk.check()?, expected::check(&read))?;
+    placing::compare(&calls::first_fault, dump, &read, desk, tally)?;
     itself::compare(desk)?;
     walk(&read, desk, tally)?;
     for _ in 0..4 {
@@ -108,8 +116,8 @@ fn walk(read: &Dump, desk: &mut Desk, tally: &mut Tally) -> Told<()> {
         items(located, words[8] as usize, desk, tally)?;
         tally.records += 1;
     }
-    let at = read.end.place;
-    let words = expected::no_record(read.end.number().into(), at, table);
+    let at = read.end.record;
+    let words = expected::no_record(read.end.number(), read.end.place, table);
     same(|| format!("record at={at} table={table}"), desk.record(at, table)?, words)
 }
 

@@ -16,6 +16,9 @@ pub type ReportCall<'a> = &'a dyn Fn(&[u8], &mut [u64; 39], &mut [u64; 2]);
 /// The call for a check, or one in its place.
 pub type CheckCall<'a> = &'a dyn Fn(&[u8], &mut [u64; 3]);
 
+/// The call for a dump's first fault, or one in its place.
+pub type FirstFaultCall<'a> = &'a dyn Fn(&[u8], &mut [u64; 4]);
+
 /// A cut: of a dump, with a window's start and end and a list, into a buffer; and the answer.
 pub type Cut = dyn Fn(&[u8], u64, u64, &[u32], &mut [u8], &mut [u64; 3]);
 
@@ -84,6 +87,14 @@ impl Desk {
 
     pub fn check_by(&mut self, call: CheckCall) -> Told<[u64; 3]> {
         self.call("check", call)
+    }
+
+    pub fn first_fault(&mut self) -> Told<[u64; 4]> {
+        self.first_fault_by(&calls::first_fault)
+    }
+
+    pub fn first_fault_by(&mut self, call: FirstFaultCall) -> Told<[u64; 4]> {
+        self.call("first fault", call)
     }
 
     pub fn record(&mut self, at: usize, table: u64) -> Told<[u64; 10]> {

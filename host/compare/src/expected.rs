@@ -2,19 +2,25 @@
 
 use dagsumilat::calls::NONE;
 use second::dump::Dump;
-use second::fault::Fault;
+use second::fault::Flaw;
 use second::peer_table::{Peer, PeerTable, TableInForce};
 use second::reader::Reader;
 use second::record::{Body, Record};
 use second::rib::{Entry, Rib};
 
 pub fn check(dump: &Dump) -> [u64; 3] {
-    [dump.end.number().into(), dump.end.place as u64, dump.records.len() as u64]
+    let [fault, place, records, _] = first_fault(dump);
+    [fault, place, records]
+}
+
+pub fn first_fault(dump: &Dump) -> [u64; 4] {
+    let end = &dump.end;
+    [end.number().into(), end.place as u64, dump.records.len() as u64, end.record as u64]
 }
 
 /// Where there is no good record.
-pub fn no_record(fault: u64, at: usize, table: u64) -> [u64; 10] {
-    [fault, at as u64, table, 0, 0, 0, 0, NONE, 0, 0]
+pub fn no_record(fault: u8, place: usize, table: u64) -> [u64; 10] {
+    [fault.into(), place as u64, table, 0, 0, 0, 0, NONE, 0, 0]
 }
 
 /// A record that starts at `at`, where `table` is in force before it.
@@ -128,41 +134,33 @@ pub fn record_at(dump: &[u8], at: usize, table: u64) -> [u64; 10] {
     }
     match Record::read(&mut Reader::over(octets), in_force(table)) {
         Ok(good) => record(&good, at, table),
-        Err(fault) => no_record(fault.number().into(), at, table),
+        Err(flaw) => no_record(flaw.number(), at + flaw.spot.place, table),
     }
 }
 
 pub fn peer_at(dump: &[u8], at: usize) -> [u64; 7] {
-    let octets = rest(dump, at);
-    let mut reader = Reader::over(octets);
+    let mut reader = Reader::over(rest(dump, at));
     match Peer::read(&mut reader) {
         Ok(peer) => peer_words(&peer, at),
-        Err(fault) => {
-            let place = at + (octets.len() - reader.left());
-            [fault.number().into(), place as u64, 0, 0, 0, 0, 0]
-        }
+        Err(flaw) => [flaw.number().into(), (at + reader.come()) as u64, 0, 0, 0, 0, 0],
     }
 }
 
 /// The second program judges index and attributes where it reads an entry, and the call does not:
 /// so the fields are taken here one by one.
 pub fn entry_at(dump: &[u8], at: usize) -> [u64; 6] {
-    let octets = rest(dump, at);
-    let mut reader = Reader::over(octets);
+    let mut reader = Reader::over(rest(dump, at));
     match entry_fields(&mut reader) {
         Ok([index, originated, size]) => {
             let attributes = at as u64 + 8;
             [0, attributes + size, index, originated, attributes, size]
         }
-        Err(fault) => {
-            let place = at + (octets.len() - reader.left());
-            [fault.number().into(), place as u64, 0, 0, 0, 0]
-        }
+        Err(flaw) => [flaw.number().into(), (at + reader.come()) as u64, 0, 0, 0, 0],
     }
 }
 
 /// Peer index, originated time and the size of the attributes.
-fn entry_fields(reader: &mut Reader) -> Result<[u64; 3], Fault> {
+fn entry_fields(reader: &mut Reader) -> Result<[u64; 3], Flaw> {
     let (index, originated, size) = (reader.u16()?, reader.u32()?, reader.u16()?);
     reader.take(size.into())?;
     Ok([index.into(), originated.into(), size.into()])

@@ -10,21 +10,21 @@ use second::record::{Body, Record};
 use second::rib::Rib;
 use second::table_dump::TableDump;
 
-/// An answer with no record.
-pub fn no_record(fault: u8) -> [u64; 20] {
+/// An answer with no record; the place counts from its header.
+pub fn no_record(fault: u8, place: usize) -> [u64; 20] {
     let mut words = [0; 20];
-    words[0] = fault.into();
+    words[..2].copy_from_slice(&[fault.into(), place as u64]);
     words
 }
 
 /// The record that these octets start with, and any table.
 pub fn read(octets: &[u8], table: u64) -> [u64; 20] {
     if octets.is_empty() {
-        return no_record(0);
+        return no_record(0, 0);
     }
     match Record::read(&mut Reader::over(octets), in_force(table)) {
         Ok(good) => record(&good),
-        Err(fault) => no_record(fault.number()),
+        Err(flaw) => no_record(flaw.number(), flaw.spot.place),
     }
 }
 

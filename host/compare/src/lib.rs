@@ -14,6 +14,7 @@ pub mod lending;
 pub mod making;
 pub mod muting;
 pub mod naming;
+pub mod placing;
 pub mod reading;
 pub mod reporting;
 pub mod running;

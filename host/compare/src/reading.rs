@@ -33,9 +33,10 @@ pub fn compare(
         tally.read[0] += 1;
         table = located.record.as_table().map_or(table, |it| it.peers as u64);
     }
-    let (at, fault) = (read.end.place, read.end.number());
+    let (at, fault) = (read.end.record, read.end.number());
     tally.read[usize::from(fault)] += 1;
-    same(call(at, table), desks.dump.read(at, table)?, expected_fields::no_record(fault))
+    let words = expected_fields::no_record(fault, read.end.place - at);
+    same(call(at, table), desks.dump.read(at, table)?, words)
 }
 
 /// Any place of the laid dump, and any table.

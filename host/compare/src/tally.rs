@@ -2,6 +2,7 @@
 
 use crate::making::{Field, Kind, Writer};
 use second::report::{Report, NUMBERS};
+use std::collections::BTreeMap;
 use std::fmt;
 
 /// Answers are 0 to 17.
@@ -37,6 +38,8 @@ pub struct Tally {
     pub kinds: [u64; Kind::ALL.len()],
     /// Dumps by the number of their fault.
     pub faults: [u64; ANSWERS],
+    /// Dumps by the number of their fault and the name of the field that failed.
+    pub failed: BTreeMap<(u8, &'static str), u64>,
     /// Dumps in which this field is damaged, accepted and refused, in the order of [`Field::ALL`].
     pub fields: [[u64; 2]; Field::COUNT],
     /// Dumps whose check was held against going from record to record, without the second program.
@@ -86,6 +89,7 @@ impl Default for Tally {
             dumps: 0,
             kinds: [0; Kind::ALL.len()],
             faults: [0; ANSWERS],
+            failed: BTreeMap::new(),
             fields: [[0; 2]; Field::COUNT],
             itself: 0,
             records: 0,
@@ -119,6 +123,11 @@ impl Tally {
     /// A dump of which this field is damaged.
     pub fn field(&mut self, field: Field, is_refused: bool) {
         self.fields[field as usize][usize::from(is_refused)] += 1;
+    }
+
+    /// A dump of which this field failed.
+    pub fn failed(&mut self, number: u8, field: &'static str) {
+        *self.failed.entry((number, field)).or_default() += 1;
     }
 
     /// A cut with a list of so many numbers.
@@ -160,6 +169,9 @@ impl Tally {
             to.0.iter_mut().zip(&from.0).for_each(|(to, from)| all(to, from));
         }
         self.fields.iter_mut().zip(&other.fields).for_each(|(to, from)| all(to, from));
+        for (key, count) in &other.failed {
+            *self.failed.entry(*key).or_default() += count;
+        }
         self.itself += other.itself;
         self.dumps += other.dumps;
         self.records += other.records;
@@ -190,6 +202,9 @@ impl fmt::Display for Tally {
             writeln!(f, "  {kind:?}: {count}")?;
         }
         writeln!(f, "dumps by fault, from 0 on: {:?}", self.faults)?;
+        for ((number, field), count) in &self.failed {
+            writeln!(f, "  {number} at {field}: {count}")?;
+        }
         writeln!(f, "one field damaged: {:?}, accepted and refused", self.of_fields())?;
         for (field, counts) in Field::ALL.iter().zip(self.fields) {
             writeln!(f, "  {field:?}: {counts:?}")?;

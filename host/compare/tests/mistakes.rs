@@ -1,11 +1,13 @@
 //! Reports with one mistake each, put in the place of the library's call: the comparison must find
-//! every one, and nothing in the same report without a mistake. Then the same with view names and
-//! with looking numbers up in a list.
+//! every one, and nothing in the same report without a mistake. Then the same with view names, with
+//! looking numbers up in a list, and with the places of faults.
 
 #[path = "mistakes/lists.rs"]
 mod lists;
 #[path = "mistakes/names.rs"]
 mod names;
+#[path = "mistakes/places.rs"]
+mod places;
 
 use compare::desk::Desk;
 use compare::reporting::compare_sessions;

@@ -13,6 +13,7 @@ use dagsumilat::calls;
 use second::vectors::rng::Rng;
 use second::vectors::Suite;
 use second::{cut_cases, report_cases, write_cases};
+use std::collections::BTreeSet;
 use std::env;
 
 /// How many dumps are made, if COMPARE_DUMPS does not say it. With fewer than some 4,000 not every
@@ -37,6 +38,7 @@ fn dumps() -> u64 {
 fn is_telling(tally: &Tally) {
     assert!(!tally.kinds.contains(&0), "a kind of dump that was not made:\n{tally}");
     are_met("dumps", &tally.faults, is_fault, tally);
+    fields_are_telling(tally);
     are_met("cuts", &tally.cuts, |answer| answer != 16, tally);
     assert!(tally.faults[0] * 3 > tally.dumps, "few dumps are accepted:\n{tally}");
     assert!(tally.changed * 3 > tally.cuts[0], "few cuts change something:\n{tally}");
@@ -73,6 +75,53 @@ fn are_met(what: &str, counts: &[u64], is_told: impl Fn(usize) -> bool, tally: &
     for (answer, count) in counts.iter().enumerate() {
         assert_eq!(*count != 0, is_told(answer), "{what}: {answer} {count} times:\n{tally}");
     }
+}
+
+/// The fields that can be incomplete.
+const FIELDS: [&str; 29] = [
+    "microseconds",
+    "view",
+    "sequence",
+    "prefix",
+    "prefix length",
+    "status",
+    "originated time",
+    "peer address",
+    "peer AS",
+    "attribute length",
+    "attributes",
+    "collector ID",
+    "view name length",
+    "view name",
+    "peer count",
+    "peer type",
+    "peer BGP ID",
+    "address family",
+    "SAFI",
+    "entry count",
+    "peer index",
+    "local AS",
+    "interface index",
+    "local address",
+    "old state",
+    "new state",
+    "BGP marker",
+    "BGP length",
+    "BGP type",
+];
+
+/// Every field failed in every way that it can, and in no other.
+fn fields_are_telling(tally: &Tally) {
+    let mut expected: BTreeSet<(u8, &str)> = FIELDS.iter().map(|name| (5, *name)).collect();
+    expected.extend([(1, "record"), (2, "record"), (3, "Type"), (4, "Subtype")]);
+    expected.extend([(6, "octets left over"), (6, "BGP length"), (7, "address family")]);
+    expected.extend([(7, "SAFI"), (8, "prefix length"), (9, "old state"), (9, "new state")]);
+    expected.extend([(10, "BGP length"), (11, "attributes"), (12, "Subtype")]);
+    expected.extend([(13, "peer index"), (17, "view name")]);
+    let met: BTreeSet<_> = tally.failed.keys().copied().collect();
+    assert_eq!(met, expected, "{tally}");
+    let is_rare = |name: &&str| tally.failed[&(5, *name)] * 300 < tally.dumps;
+    assert_eq!(FIELDS.iter().find(|name| is_rare(name)), None, "rarely incomplete:\n{tally}");
 }
 
 /// Many names are text and many are not; some tables end in the name or behind it.

@@ -128,7 +128,11 @@ impl fmt::Display for Fault {
 
 impl Error for Fault {}
 
-/// A fault, and the offset of the record that has it (0 if it is not a record's).
+/// A fault, and its place: the first octet of the field that failed, counted from the dump's first
+/// octet, or from the record's where one record is read; 0 if it is no fault of a dump.
+///
+/// A field of which nothing is there has the place where it would start, just past the record. Where
+/// the faulty record of a dump starts is told by [`first_fault`](crate::first_fault).
 #[derive(Clone, Copy, Debug, PartialEq, Eq, Hash)]
 pub struct Refusal {
     pub fault: Fault,

@@ -23,7 +23,9 @@
 #[doc(hidden)]
 pub mod calls;
 mod fault;
+mod field;
 mod fields;
+mod first_fault;
 mod items;
 mod reading;
 mod record;
@@ -35,6 +37,7 @@ pub use fault::{Fault, Refusal};
 pub use fields::{
     Fields, Message, PeerTable, Rib, RibGeneric, Session, StateChange, TableDump, Time, Unread,
 };
+pub use first_fault::{first_fault, FirstFault};
 pub use items::{Entries, Entry, Peer, Peers};
 pub use reading::{read, Read};
 pub use record::{Kind, Record};

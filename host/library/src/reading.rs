@@ -1,6 +1,6 @@
 //! One record read from octets that start with its header.
 
-use crate::fault::Fault;
+use crate::fault::Refusal;
 use crate::fields::{
     Fields, Message, PeerTable, Rib, RibGeneric, Session, StateChange, TableDump, Time, Unread,
 };
@@ -17,7 +17,7 @@ pub struct Read<'a> {
 /// Reads the record that these octets start with; none if there are no octets.
 ///
 /// `table` is the table in force before it: how many peers it has, none if there is no table yet.
-/// It matters for RIB records only.
+/// It matters for RIB records only. The place of a fault counts from the record's header.
 ///
 /// ```
 /// use dagsumilat::{read, Fault, Fields};
@@ -32,13 +32,15 @@ pub struct Read<'a> {
 /// assert_eq!((change.session.peer_as, change.old, change.new), (64500, 3, 4));
 /// assert_eq!(change.session.peer_address, [192, 0, 2, 1]);
 ///
-/// assert_eq!(read(&octets[..31], None), Err(Fault::LengthPastEnd));
+/// octets[31] = 7;
+/// let refusal = read(&octets, None).unwrap_err();
+/// assert_eq!((refusal.fault, refusal.place), (Fault::State, 30));
 /// assert_eq!(read(&[], None), Ok(None));
 /// ```
-pub fn read(octets: &[u8], table: Option<u64>) -> Result<Option<Read<'_>>, Fault> {
+pub fn read(octets: &[u8], table: Option<u64>) -> Result<Option<Read<'_>>, Refusal> {
     let answer = answered(|answer| calls::read(octets, table_word(table), answer));
-    if let Some(fault) = Fault::of_answer(answer[0]) {
-        return Err(fault);
+    if let Some(refusal) = Refusal::of_answer(answer[0], answer[1]) {
+        return Err(refusal);
     }
     let words = Words { octets, answer };
     Ok(words.fields().map(|fields| Read { fields, size: answer[1] as usize }))

@@ -6,6 +6,9 @@ use dagsumilat::{
 };
 use std::str;
 
+/// Where a name stands in its record.
+const NAME: usize = 18;
+
 fn named(name: &[u8]) -> PeerTable<'_> {
     PeerTable { timestamp: 1, collector_id: 0xc000_02fe, name, count: 0, peers: &[] }
 }
@@ -30,7 +33,7 @@ fn assert_judged(name: &[u8]) {
             assert_eq!((written, out), (Ok(octets.len()), octets));
         }
         Err(_) => {
-            assert_eq!(found, Err(Fault::ViewName), "{name:x?}");
+            assert_eq!(found, Err(Refusal { fault: Fault::ViewName, place: NAME }), "{name:x?}");
             assert_eq!(written, Err(Fault::ViewName), "{name:x?}");
             assert!(out.iter().all(|octet| *octet == 7), "{name:x?}");
         }
@@ -93,15 +96,15 @@ fn bad_octets_anywhere() {
 #[test]
 fn the_order_of_faults() {
     let octets = laid(b"caf\xe9");
-    for (by, fault) in [
-        (1, Fault::ViewName),
-        (2, Fault::ViewName),
-        (3, Fault::FieldIncomplete),
-        (7, Fault::FieldIncomplete),
+    for (by, fault, place) in [
+        (1, Fault::ViewName, NAME),
+        (2, Fault::ViewName, NAME),
+        (3, Fault::FieldIncomplete, NAME),
+        (7, Fault::FieldIncomplete, NAME - 2),
     ] {
         let mut short = octets[..octets.len() - by].to_vec();
         short[11] -= by as u8;
-        assert_eq!(read(&short, None), Err(fault), "{by}");
+        assert_eq!(read(&short, None), Err(Refusal { fault, place }), "{by}");
     }
     let mut out = [7; 30];
     let bad = named(b"\xff");
@@ -113,9 +116,9 @@ fn the_order_of_faults() {
 }
 
 #[test]
-fn a_dump_with_a_bad_name_is_refused_at_its_record() {
+fn a_dump_with_a_bad_name_is_refused_at_the_name() {
     let dump = [laid("café".as_bytes()), laid(b"caf\xe9")].concat();
-    let refusal = Refusal { fault: Fault::ViewName, place: 25 };
+    let refusal = Refusal { fault: Fault::ViewName, place: 25 + NAME };
     let found = check(&dump);
     assert_eq!((found.records, found.refusal), (1, Some(refusal)));
     assert_eq!(records(&dump).nth(1).unwrap().unwrap_err(), refusal);

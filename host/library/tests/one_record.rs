@@ -2,8 +2,8 @@
 //! is read and written again, over the sample and the stored vectors.
 
 use dagsumilat::{
-    read, records, Fault, Fields, Message, PeerTable, Rib, RibGeneric, Session, StateChange,
-    TableDump, Time, Unread,
+    read, records, Fault, Fields, Message, PeerTable, Refusal, Rib, RibGeneric, Session,
+    StateChange, TableDump, Time, Unread,
 };
 use second::bgp4mp::Event;
 use second::dump::Dump;
@@ -64,8 +64,10 @@ fn fields_are_those_of_the_second_program() {
             assert_same(&found.fields, &located.record);
             table = located.record.as_table().map(|it| it.peers as u64).or(table);
         }
-        let end = read(&dump[expected.end.place..], table);
-        assert_eq!(end.err().map_or(0, Fault::number), expected.end.number(), "{name}");
+        let end = read(&dump[expected.end.record..], table).err();
+        let found = end.map(|end| (end.fault.number(), expected.end.record + end.place));
+        let wanted = expected.end.fault.map(|fault| (fault.number(), expected.end.place));
+        assert_eq!(found, wanted, "{name}");
     }
 }
 
@@ -207,8 +209,9 @@ fn a_rib_record_needs_its_table() {
     assert_eq!(rib.write(Some(2), &mut out), Ok(29));
     assert_eq!(rib.write(Some(u64::MAX), &mut out), Ok(29));
 
-    assert_eq!(read(&out, None), Err(Fault::NoTable));
-    assert_eq!(read(&out, Some(1)), Err(Fault::PeerIndex));
+    let refusal = |fault, place| Err(Refusal { fault, place });
+    assert_eq!(read(&out, None), refusal(Fault::NoTable, 6));
+    assert_eq!(read(&out, Some(1)), refusal(Fault::PeerIndex, 21));
     let found = read(&out, Some(u64::MAX)).unwrap().unwrap();
     assert_eq!((found.fields, found.size), (Fields::Rib(rib), 29));
 }

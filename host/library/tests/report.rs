@@ -38,7 +38,7 @@ fn a_refused_dump_adds_nothing() {
     report.add(&three_changes()).unwrap();
     let before = report;
     let state = [three_changes(), change(0, 1)].concat();
-    assert_eq!(report.add(&state), Err(Refusal { fault: Fault::State, place: 96 }));
+    assert_eq!(report.add(&state), Err(Refusal { fault: Fault::State, place: 96 + 28 }));
     assert_eq!(report, before);
     assert_eq!(report.add(&[]), Ok(()));
     assert_eq!(report, before);

@@ -1,44 +1,55 @@
 //! A fault in words: what it means, what it often comes from, and what a person can do.
 
-use crate::view_name;
-use dagsumilat::{Fault, Refusal};
+use crate::header::Header;
+use crate::{bgp_length, excerpt, view_name};
+use dagsumilat::{first_fault, Fault, FirstFault};
 
-/// The words for a dump's fault; `records` good ones stand before it.
-pub fn dump_refused(name: &str, dump: &[u8], refusal: Refusal, records: u64) -> String {
-    let Refusal { fault, place } = refusal;
+/// The words for a dump that was refused with this fault. One that is not the dump's own, as that
+/// of a report past 64 bits, has no place in it.
+pub fn dump_refused(name: &str, dump: &[u8], fault: Fault) -> String {
     let (number, words) = (fault.number(), fault.words());
     let Hint { cause, remedy, .. } = hint(fault);
-    let seen = seen(dump, refusal).map(|seen| format!("\n  {seen}")).unwrap_or_default();
-    let before = match place {
-        0 => "No good record stands before it.".to_string(),
-        _ => format!(
-            "{records} good record(s) stand before it; the unpacked dump's first {place} octets \
-             alone are a good dump (head -c {place})."
-        ),
+    let (place, seen) = match first_fault(dump) {
+        Some(found) => (place(found.place), seen(dump, &found)),
+        None => (String::new(), String::new()),
     };
-    format!(
-        "{name}: fault {number} at octet {place} (0x{place:x}): {words}{seen}\n  \
-         {before}\n  Often: {cause}\n  To do: {remedy}"
-    )
+    format!("{name}: fault {number}{place}: {words}{seen}\n  Often: {cause}\n  To do: {remedy}")
 }
 
-/// What stands in the dump where number and place alone do not say enough.
-fn seen(dump: &[u8], refusal: Refusal) -> Option<String> {
-    match refusal.fault {
-        Fault::ViewName => view_name::told(dump, refusal.place),
-        _ => None,
+fn place(at: usize) -> String {
+    format!(" at octet {at} (0x{at:x})")
+}
+
+/// What stands in the dump about the fault, a line each.
+fn seen(dump: &[u8], found: &FirstFault) -> String {
+    let mut lines = vec![field(dump, found)];
+    lines.extend(excerpt::rows(dump, found).iter().map(|row| format!("  {row}")));
+    if found.fault == Fault::ViewName {
+        lines.extend(view_name::told(dump, found.place));
     }
+    lines.extend(bgp_length::told(dump, found));
+    lines.push(before(found));
+    lines.iter().map(|line| format!("\n  {line}")).collect()
 }
 
-/// The words for a dump that is not in the report. A sum past 64 bits is not the dump's own fault.
-pub fn report_refused(name: &str, dump: &[u8], refusal: Refusal, records: u64) -> String {
-    match refusal.fault {
-        Fault::Report => {
-            let (number, words) = (refusal.fault.number(), refusal.fault.words());
-            let Hint { cause, remedy, .. } = hint(refusal.fault);
-            format!("{name}: fault {number}: {words}\n  Often: {cause}\n  To do: {remedy}")
-        }
-        _ => dump_refused(name, dump, refusal, records),
+/// The field that failed, where its record starts, and what that record is.
+fn field(dump: &[u8], found: &FirstFault) -> String {
+    let header = Header::at(dump, found.record);
+    let end = header.as_ref().and_then(|header| header.end(found.record));
+    let is_missing = found.fault == Fault::FieldIncomplete && end == Some(found.place);
+    let missing = if is_missing { ", of which nothing is there" } else { "" };
+    let name = found.field(dump).map(|name| format!("Field: {name}{missing}. "));
+    let header = header.map(|header| format!(": {header}")).unwrap_or_default();
+    format!("{}The record starts{}{header}.", name.unwrap_or_default(), place(found.record))
+}
+
+fn before(found: &FirstFault) -> String {
+    match *found {
+        FirstFault { record: 0, .. } => "No good record stands before it.".to_string(),
+        FirstFault { record, records, .. } => format!(
+            "{records} good record(s) stand before it; the unpacked dump's first {record} octets \
+             alone are a good dump (head -c {record})."
+        ),
     }
 }
 
@@ -75,13 +86,12 @@ const HINTS: [Hint; Fault::ALL.len()] = [
         fault: Fault::LengthPastEnd,
         cause: "the file was cut off; or a disk that was full for a while left half a record in \
                 the middle, and what follows was taken for its rest.",
-        remedy: "get the file again; else keep the part before, and look at the record at this \
-                 place.",
+        remedy: "get the file again; else keep the part before, and look at the record.",
     },
     Hint {
         fault: Fault::Type,
-        cause: "not an MRT dump (at octet 0), or packed in a way that is not read here, as xz or \
-                zstd; types 0 to 10 are deprecated and not read; further on, damage.",
+        cause: "not an MRT dump (in the first record), or packed in a way that is not read here, \
+                as xz or zstd; types 0 to 10 are deprecated and not read; further on, damage.",
         remedy: "see what `file` says of it, and unpack it first.",
     },
     Hint {
@@ -94,8 +104,7 @@ const HINTS: [Hint; Fault::ALL.len()] = [
         fault: Fault::FieldIncomplete,
         cause: "a state change without addresses, as FRR writes at shutdown; type 17 with a \
                 Length that does not count the microseconds; damage.",
-        remedy: "look at the record at this place; have the producer mended, or keep the part \
-                 before.",
+        remedy: "look at the record; have the producer mended, or keep the part before.",
     },
     Hint {
         fault: Fault::OctetsLeft,
@@ -121,7 +130,7 @@ const HINTS: [Hint; Fault::ALL.len()] = [
     Hint {
         fault: Fault::BgpLength,
         cause: "extended messages (RFC 8654), which reach 65,535 octets; damage.",
-        remedy: "look at the record at this place; have the collector take no extended messages.",
+        remedy: "look at the record; have the collector take no extended messages.",
     },
     Hint {
         fault: Fault::Attributes,
@@ -167,16 +176,27 @@ const HINTS: [Hint; Fault::ALL.len()] = [
 mod tests {
     use super::*;
 
+    /// A state change from 3 to this state at second 1.
+    fn change(new: u8) -> Vec<u8> {
+        let mut octets = vec![0, 0, 0, 1, 0, 16, 0, 0, 0, 0, 0, 20];
+        octets.extend([0xfb, 0xf4, 0xfb, 0xff, 0, 0, 0, 1, 192, 0, 2, 1, 192, 0, 2, 254]);
+        octets.extend([0, 3, 0, new]);
+        octets
+    }
+
     #[test]
-    fn a_fault_is_told_with_number_and_place() {
-        let refusal = Refusal { fault: Fault::State, place: 1234 };
-        let words = dump_refused("a.mrt", &[], refusal, 12);
-        assert!(
-            words.starts_with("a.mrt: fault 9 at octet 1234 (0x4d2): a state change"),
-            "{words}"
-        );
-        assert!(words.contains("12 good record(s)"), "{words}");
-        assert!(words.contains("head -c 1234"), "{words}");
+    fn a_fault_is_told_with_all_that_is_known_of_it() {
+        let words = dump_refused("a.mrt", &[change(4), change(7)].concat(), Fault::State);
+        let expected = "\
+a.mrt: fault 9 at octet 62 (0x3e): a state change names an FSM state outside 1 to 6
+  Field: new state. The record starts at octet 32 (0x20): Type 16, Subtype 0, Length 20.
+    00000020 |00 00 00 01 00 10 00 00 00 00 00 14 fb f4 fb ff
+    00000030  00 00 00 01 c0 00 02 01 c0 00 02 fe 00 03[00]07
+  1 good record(s) stand before it; the unpacked dump's first 32 octets alone are a good dump \
+(head -c 32).
+  Often: ";
+        assert!(words.starts_with(expected), "{words}");
+        assert!(words.lines().last().unwrap().starts_with("  To do: "), "{words}");
     }
 
     #[test]
@@ -186,28 +206,33 @@ mod tests {
 
     #[test]
     fn a_report_too_large_has_no_place_in_the_dump() {
-        let refusal = Refusal { fault: Fault::Report, place: 0 };
-        let words = report_refused("a.mrt", &[], refusal, 12);
+        let words = dump_refused("a.mrt", &change(4), Fault::Report);
         assert!(words.starts_with("a.mrt: fault 16: a number of the report"), "{words}");
         assert!(!words.contains("octet"), "{words}");
-        let refusal = Refusal { fault: Fault::State, place: 32 };
-        assert_eq!(report_refused("a", &[], refusal, 1), dump_refused("a", &[], refusal, 1));
     }
 
     #[test]
-    fn only_a_view_name_is_shown() {
-        let dump = b"\0\0\0\x01\0\x0d\0\x01\0\0\0\x0c\xc0\0\x02\xfe\0\x04caf\xe9\0\0";
-        let words = |fault| dump_refused("a.mrt", dump, Refusal { fault, place: 0 }, 0);
-        let told = words(Fault::ViewName);
-        let second = told.lines().nth(1).unwrap();
-        assert!(second.starts_with("  The name is \"caf\\xE9\""), "{told}");
-        assert!(!words(Fault::OctetsLeft).contains("caf"));
+    fn only_a_view_name_is_shown_as_text() {
+        let name = b"\0\0\0\x01\0\x0d\0\x01\0\0\0\x0c\xc0\0\x02\xfe\0\x04caf\xe9\0\0";
+        let words = dump_refused("a.mrt", name, Fault::ViewName);
+        assert!(words.contains("\n  The name is \"caf\\xE9\""), "{words}");
+        assert!(!dump_refused("a.mrt", &change(7), Fault::State).contains("The name"));
     }
 
     #[test]
     fn nothing_is_kept_of_a_dump_that_starts_with_a_fault() {
-        let words = dump_refused("a.mrt", &[], Refusal { fault: Fault::Type, place: 0 }, 0);
+        let words = dump_refused("a.mrt", b"this is no dump", Fault::LengthPastEnd);
         assert!(words.contains("No good record"), "{words}");
         assert!(!words.contains("head -c"), "{words}");
+    }
+
+    /// Half a header says neither Type nor Length.
+    #[test]
+    fn a_record_without_a_header() {
+        let words = dump_refused("a.mrt", &[9; 11], Fault::HeaderIncomplete);
+        assert!(
+            words.contains("\n  Field: record. The record starts at octet 0 (0x0).\n"),
+            "{words}"
+        );
     }
 }

@@ -88,7 +88,7 @@ fn cut_and_count(order: &CutOrder, dump: &[u8], mutes: &[u32]) -> Result<(Tally,
         Ok(clip) => Ok((before, clip)),
         Err(refusal) => {
             let name = order.reading.source.name().display().to_string();
-            Err(Stop::Refused(advice::dump_refused(&name, dump, refusal, before.records())))
+            Err(Stop::Refused(advice::dump_refused(&name, dump, refusal.fault)))
         }
     }
 }

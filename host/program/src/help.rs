@@ -34,8 +34,8 @@ Usage: dagsumilat list FILE
 
 Prints a line for each record before the first fault,
   at=OFFSET time=MICROSECONDS type=T subtype=S length=L
-then fault=N place=OFFSET; fault=0 and the dump's length if the dump is good. The words for
-a fault go to standard error.
+then fault=N place=OFFSET, where the field that failed starts; fault=0 and the dump's length
+if the dump is good. The words for a fault go to standard error.
 
   --no-progress  no bar for a large file
 ";
@@ -44,7 +44,9 @@ pub const CHECK: &str = "\
 Usage: dagsumilat check FILE
 
 Says how many records and octets a good dump has. Otherwise tells the first fault: its number,
-its place, what it means, what it often comes from and what to do.
+its place, which is the first octet of the field that failed, and what it means; that field's
+name, the record it is in and the octets around; how much of the dump is good; what such a
+fault often comes from and what to do.
 
   --no-progress  no bar for a large file
 ";

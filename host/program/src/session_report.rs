@@ -28,8 +28,7 @@ fn add(total: &mut Report, reading: &Reading) -> Result<(), Stop> {
     let dump = reading.source.read(&mut Progress::new(reading.progress))?;
     total.add(&dump).map_err(|refusal| {
         let name = reading.source.name().display().to_string();
-        let records = dagsumilat::check(&dump).records;
-        Stop::Refused(advice::report_refused(&name, &dump, refusal, records))
+        Stop::Refused(advice::dump_refused(&name, &dump, refusal.fault))
     })
 }
 

@@ -15,12 +15,12 @@ fn read(reading: &Reading) -> Result<Vec<u8>, Stop> {
 }
 
 /// Ends a command: a fault, where there is one, is told last.
-fn end(reading: &Reading, dump: &[u8], refusal: Option<Refusal>, records: u64) -> Result<(), Stop> {
+fn end(reading: &Reading, dump: &[u8], refusal: Option<Refusal>) -> Result<(), Stop> {
     match refusal {
         None => Ok(()),
-        Some(refusal) => {
+        Some(Refusal { fault, .. }) => {
             let name = reading.source.name().display().to_string();
-            Err(Stop::Refused(advice::dump_refused(&name, dump, refusal, records)))
+            Err(Stop::Refused(advice::dump_refused(&name, dump, fault)))
         }
     }
 }
@@ -29,19 +29,18 @@ pub fn list(reading: &Reading) -> Result<(), Stop> {
     let dump = read(reading)?;
     let mut out = BufWriter::with_capacity(BUFFER, io::stdout().lock());
     let listed = write_list(&dump, &mut out).and_then(|listed| out.flush().map(|()| listed));
-    let (refusal, count) = listed.map_err(|error| Stop::printing(&error))?;
-    end(reading, &dump, refusal, count)
+    let refusal = listed.map_err(|error| Stop::printing(&error))?;
+    end(reading, &dump, refusal)
 }
 
-fn write_list(dump: &[u8], out: &mut impl Write) -> io::Result<(Option<Refusal>, u64)> {
-    let mut count = 0;
+fn write_list(dump: &[u8], out: &mut impl Write) -> io::Result<Option<Refusal>> {
     for found in records(dump) {
         let record = match found {
             Ok(record) => record,
             Err(refusal) => {
                 let Refusal { fault, place } = refusal;
                 writeln!(out, "fault={} place={place}", fault.number())?;
-                return Ok((Some(refusal), count));
+                return Ok(Some(refusal));
             }
         };
         writeln!(
@@ -49,16 +48,15 @@ fn write_list(dump: &[u8], out: &mut impl Write) -> io::Result<(Option<Refusal>,
             "at={} time={} type={} subtype={} length={}",
             record.at, record.time, record.type_code, record.subtype, record.length
         )?;
-        count += 1;
     }
     writeln!(out, "fault=0 place={}", dump.len())?;
-    Ok((None, count))
+    Ok(None)
 }
 
 pub fn check(reading: &Reading) -> Result<(), Stop> {
     let dump = read(reading)?;
     let check = dagsumilat::check(&dump);
-    end(reading, &dump, check.refusal, check.records)?;
+    end(reading, &dump, check.refusal)?;
     let (name, records, octets) = (reading.source.name().display(), check.records, dump.len());
     let mut out = io::stdout().lock();
     writeln!(out, "{name}: good, {records} records, {octets} octets")
@@ -71,7 +69,7 @@ pub fn peers(reading: &Reading) -> Result<(), Stop> {
     let mut out = BufWriter::with_capacity(BUFFER, io::stdout().lock());
     let written = write_peers(&tally, &mut out).and_then(|()| out.flush());
     written.map_err(|error| Stop::printing(&error))?;
-    end(reading, &dump, tally.refusal, tally.records())
+    end(reading, &dump, tally.refusal)
 }
 
 fn write_peers(tally: &Tally, out: &mut impl Write) -> io::Result<()> {

@@ -6,16 +6,14 @@ use std::str;
 /// many from there on.
 const SHOWN: usize = 40;
 
-/// Where the name's length stands in a peer table, counted from its header: behind the collector's
-/// ID. The name follows.
-const LENGTH: usize = 16;
-const NAME: usize = LENGTH + 2;
+/// The octets of the name's length, which stand right before it.
+const LENGTH: usize = 2;
 
-/// The words for the name of the peer table at `place`; none if it is text, or not there.
+/// The words for the name at `place`; none if it is text, or not there.
 pub fn told(dump: &[u8], place: usize) -> Option<String> {
     let name = name(dump, place)?;
     let good = str::from_utf8(name).err()?.valid_up_to();
-    let (shown, size, at) = (shown(name, good), name.len(), place + NAME + good);
+    let (shown, size, at) = (shown(name, good), name.len(), place + good);
     Some(format!(
         "The name is {shown}, {size} octet(s); the first that is not text is at octet {at} \
          (0x{at:x})."
@@ -23,9 +21,9 @@ pub fn told(dump: &[u8], place: usize) -> Option<String> {
 }
 
 fn name(dump: &[u8], place: usize) -> Option<&[u8]> {
-    let table = dump.get(place..)?;
-    let size = table.get(LENGTH..)?.first_chunk().copied().map(u16::from_be_bytes)?;
-    table.get(NAME..)?.get(..size.into())
+    let length = dump.get(place.checked_sub(LENGTH)?..)?;
+    let size = length.first_chunk().copied().map(u16::from_be_bytes)?;
+    length.get(LENGTH..)?.get(..size.into())
 }
 
 /// In quotation marks; dots stand for what is left out. The first `good` octets are text.
@@ -52,9 +50,12 @@ fn pieces(name: &[u8]) -> Vec<String> {
 mod tests {
     use super::*;
 
-    /// A peer table without peers behind 5 other octets.
+    /// Where the name stands in the dumps here.
+    const NAME: usize = 23;
+
+    /// A name with its length, and other octets before and behind.
     fn dump(name: &[u8]) -> Vec<u8> {
-        let mut dump = vec![0xff; 5 + LENGTH];
+        let mut dump = vec![0xff; NAME - LENGTH];
         dump.extend((name.len() as u16).to_be_bytes());
         dump.extend(name);
         dump.extend([0, 0]);
@@ -62,7 +63,7 @@ mod tests {
     }
 
     fn told_of(name: &[u8]) -> String {
-        told(&dump(name), 5).unwrap()
+        told(&dump(name), NAME).unwrap()
     }
 
     #[test]
@@ -90,7 +91,7 @@ mod tests {
         let words = told_of(&name);
         let (before, behind) = ("é".repeat(SHOWN), "z".repeat(SHOWN - 1));
         assert!(words.contains(&format!(" ...\"{before}\\xFF{behind}\"..., 65001 ")), "{words}");
-        assert!(words.contains(&format!(" at octet {} ", 5 + NAME + 60_000)), "{words}");
+        assert!(words.contains(&format!(" at octet {} ", NAME + 60_000)), "{words}");
         let short = [&[b'a'; SHOWN][..], &[0xff; SHOWN]].concat();
         assert!(!told_of(&short).contains("..."));
     }
@@ -98,12 +99,12 @@ mod tests {
     #[test]
     fn what_is_text_or_not_there_is_not_told() {
         let whole = dump("Zürich \u{ffff}\0".as_bytes());
-        assert_eq!(told(&whole, 5), None);
+        assert_eq!(told(&whole, NAME), None);
         let whole = dump(b"\xff");
-        assert!(told(&whole, 5).is_some());
-        for size in 0..5 + NAME + 1 {
-            assert_eq!(told(&whole[..size], 5), None);
+        assert!(told(&whole, NAME).is_some());
+        for size in 0..NAME + 1 {
+            assert_eq!(told(&whole[..size], NAME), None);
         }
-        assert_eq!(told(&whole, usize::MAX), None);
+        assert!([0, 1, usize::MAX].iter().all(|place| told(&whole, *place).is_none()));
     }
 }

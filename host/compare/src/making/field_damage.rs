@@ -25,6 +25,20 @@ pub fn dumps(count: usize, rng: &mut Rng) -> Vec<Vec<u8>> {
     (0..count).map(&mut one).collect()
 }
 
+/// A good dump of which a record ends inside a field, by its Length too. A field that is not in a
+/// message or has no octets is damaged in another way.
+pub fn ended(rng: &mut Rng) -> Vec<u8> {
+    let field = *rng.pick(&Field::ALL);
+    let mapped = Mapped::with(field, rng);
+    let spot = mapped.pick(field, rng);
+    if spot.octets.is_empty() || spot.counted_by.is_empty() {
+        return damaged(&mapped.dump, spot, rng);
+    }
+    let mut damage = Damage { dump: mapped.dump.clone(), spot, fits: true };
+    damage.end_inside(rng);
+    damage.dump
+}
+
 fn damaged(dump: &[u8], spot: &Spot, rng: &mut Rng) -> Vec<u8> {
     let mut damage = Damage { dump: dump.to_vec(), spot, fits: rng.below(2) == 0 };
     match rng.below(8) {

@@ -14,6 +14,7 @@ mod reports;
 mod sessions;
 
 pub use asks::{ask, Known};
+pub use field_damage::ended;
 pub use fields::Field;
 pub use given::{given, named, room, MadeGiven, Writer};
 pub use lists::{muted, Length, KEPT};

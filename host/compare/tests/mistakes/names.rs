@@ -58,8 +58,11 @@ enum Mistake {
     PeersFirst,
     /// What is there of a name that is cut short is looked at.
     HalfName,
-    /// The fault is placed at the name.
-    NamePlaced,
+    /// The fault is placed at the record, at the name's length, or at the first octet that is not
+    /// text.
+    RecordPlaced,
+    LengthPlaced,
+    OctetPlaced,
     /// The writer takes any name.
     WriterUnasked,
     /// Count and peers, or the room, come before the name's fault.
@@ -71,7 +74,7 @@ enum Mistake {
 
 use Mistake::*;
 
-const ALL: [Mistake; 25] = [
+const ALL: [Mistake; 27] = [
     AnyOctets,
     OverlongTwo,
     OverlongThree,
@@ -92,7 +95,9 @@ const ALL: [Mistake; 25] = [
     CountFirst,
     PeersFirst,
     HalfName,
-    NamePlaced,
+    RecordPlaced,
+    LengthPlaced,
+    OctetPlaced,
     WriterUnasked,
     WriterCountFirst,
     WriterRoomFirst,
@@ -169,44 +174,67 @@ impl Mistake {
     fn check(self, dump: &[u8], answer: &mut [u64; 3]) {
         let mut dump = dump.to_vec();
         loop {
-            calls::check(&dump, answer);
-            let place = answer[1] as usize;
-            let Some(name) = name_at(&dump, place) else {
+            let found = first_fault(&dump);
+            answer.copy_from_slice(&found[..3]);
+            let record = found[3] as usize;
+            let Some(name) = name_at(&dump, record) else {
                 break;
             };
-            let end = message_end(&dump, place);
+            let end = message_end(&dump, record);
             if answer[0] == NOT_TEXT && self.passes(&dump[name.clone()], &dump[name.end..end]) {
                 dump[name].fill(b'a');
                 continue;
             }
-            self.mistake_order(&mut dump, name, answer);
+            self.mistake_order(&mut dump, name.clone(), record, answer);
+            self.mistake_place(&dump, name, record, answer);
             break;
         }
         let refused = tables(&dump).find(|table| self.refuses(&dump[table.name.clone()]));
         if let Some(table) = refused {
-            *answer = [NOT_TEXT, table.place as u64, table.records];
+            *answer = [NOT_TEXT, table.name.start as u64, table.records];
         }
     }
 
-    /// Another of two faults, or another place.
-    fn mistake_order(self, dump: &mut [u8], name: Range<usize>, answer: &mut [u64; 3]) {
-        let [fault, place, records] = *answer;
-        let end = message_end(dump, place as usize);
+    /// Another of two faults.
+    fn mistake_order(
+        self,
+        dump: &mut [u8],
+        name: Range<usize>,
+        record: usize,
+        answer: &mut [u64; 3],
+    ) {
+        let end = message_end(dump, record);
         let is_cut_short = name.end > end;
-        match (self, fault) {
-            (CountFirst, NOT_TEXT) if end - name.end < 2 => answer[0] = 5,
+        match (self, answer[0]) {
+            (CountFirst, NOT_TEXT) if end - name.end < 2 => {
+                *answer = [5, name.end as u64, answer[2]];
+            }
             (PeersFirst, NOT_TEXT) => {
                 dump[name].fill(b'a');
-                let mut plain = [0; 3];
-                calls::check(dump, &mut plain);
-                if plain[1..] == [place, records] {
-                    *answer = plain;
+                let plain = first_fault(dump);
+                if plain[3] == record as u64 {
+                    answer.copy_from_slice(&plain[..3]);
                 }
             }
             (HalfName, 5) if is_cut_short && !is_text(&dump[name.start..end]) => {
                 answer[0] = NOT_TEXT;
             }
-            (NamePlaced, NOT_TEXT) => answer[1] += BEFORE as u64,
+            _ => {}
+        }
+    }
+
+    /// Another place.
+    fn mistake_place(self, dump: &[u8], name: Range<usize>, record: usize, answer: &mut [u64; 3]) {
+        if answer[0] != NOT_TEXT {
+            return;
+        }
+        match self {
+            RecordPlaced => answer[1] = record as u64,
+            LengthPlaced => answer[1] -= 2,
+            OctetPlaced => {
+                let text = std::str::from_utf8(&dump[name]).map_err(|error| error.valid_up_to());
+                answer[1] += text.err().unwrap_or(0) as u64;
+            }
             _ => {}
         }
     }
@@ -237,6 +265,12 @@ impl Mistake {
     }
 }
 
+fn first_fault(dump: &[u8]) -> [u64; 4] {
+    let mut answer = [0; 4];
+    calls::first_fault(dump, &mut answer);
+    answer
+}
+
 fn is_text(octets: &[u8]) -> bool {
     std::str::from_utf8(octets).is_ok()
 }
@@ -248,22 +282,21 @@ fn number(octets: &[u8]) -> u64 {
     octets[1..].iter().fold(first, |number, octet| number << 6 | u64::from(octet & 0x3f))
 }
 
-/// Where the name of the table at this place lies, which may reach past the message; none if there
+/// Where the name of the table at this offset lies, which may reach past the message; none if there
 /// is no table there.
-fn name_at(dump: &[u8], place: usize) -> Option<Range<usize>> {
-    let head = dump.get(place..place + BEFORE)?;
-    let is_table = head[4..8] == [0, 13, 0, 1] && message_end(dump, place) >= place + BEFORE;
+fn name_at(dump: &[u8], record: usize) -> Option<Range<usize>> {
+    let head = dump.get(record..record + BEFORE)?;
+    let is_table = head[4..8] == [0, 13, 0, 1] && message_end(dump, record) >= record + BEFORE;
     let size = usize::from(u16::from_be_bytes([head[16], head[17]]));
-    is_table.then_some(place + BEFORE..place + BEFORE + size)
+    is_table.then_some(record + BEFORE..record + BEFORE + size)
 }
 
-fn message_end(dump: &[u8], place: usize) -> usize {
-    let length = dump[place + 8..place + 12].iter().fold(0, |sum, it| sum << 8 | usize::from(*it));
-    place + 12 + length
+fn message_end(dump: &[u8], record: usize) -> usize {
+    let length = &dump[record + 8..record + 12];
+    record + 12 + length.iter().fold(0, |sum, it| sum << 8 | usize::from(*it))
 }
 
 struct Table {
-    place: usize,
     /// How many records stand before it.
     records: u64,
     name: Range<usize>,
@@ -275,12 +308,12 @@ fn tables(dump: &[u8]) -> impl Iterator<Item = Table> + '_ {
     let record = move || {
         let mut words = [0; 10];
         calls::record(dump, at, table, &mut words);
-        let place = at;
+        let start = at;
         (at, table) = (words[1] as usize, words[2]);
-        (words[0] == 0 && at > place).then_some((place, words[4..6] == [13, 1]))
+        (words[0] == 0 && at > start).then_some((start, words[4..6] == [13, 1]))
     };
-    let is_table = |(records, (place, is_table)): (u64, (usize, bool))| {
-        is_table.then(|| Table { place, records, name: name_at(dump, place).expect("a table") })
+    let is_table = |(records, (start, is_table)): (u64, (usize, bool))| {
+        is_table.then(|| Table { records, name: name_at(dump, start).expect("a table") })
     };
     (0..).zip(std::iter::from_fn(record)).filter_map(is_table)
 }

@@ -15,6 +15,7 @@ pub const NONE: u64 = u64::MAX;
 
 extern "C" {
     fn dagsumilat_check(dump: *const u8, dump_len: usize, answer: *mut [u64; 3]);
+    fn dagsumilat_first_fault(dump: *const u8, dump_len: usize, answer: *mut [u64; 4]);
     fn dagsumilat_report(
         dump: *const u8,
         dump_len: usize,
@@ -47,6 +48,11 @@ extern "C" {
 pub fn check(dump: &[u8], answer: &mut [u64; 3]) {
     // SAFETY: see the top of this file.
     unsafe { dagsumilat_check(dump.as_ptr(), dump.len(), answer) }
+}
+
+pub fn first_fault(dump: &[u8], answer: &mut [u64; 4]) {
+    // SAFETY: see the top of this file.
+    unsafe { dagsumilat_first_fault(dump.as_ptr(), dump.len(), answer) }
 }
 
 pub fn report(dump: &[u8], report: &mut [u64; 39], answer: &mut [u64; 2]) {

@@ -3,6 +3,7 @@
 use crate::dumps::sample;
 use crate::run::{is_emulated, run, Folder};
 use second::cut::Answer;
+use second::dump::Dump;
 use second::vectors::rng::Rng;
 use std::collections::BTreeSet;
 use std::{env, fs};
@@ -43,7 +44,8 @@ fn assert_reported(file: &str, octets: &[u8], status: i32) {
 }
 
 /// A clip of all times, or the fault told and no file.
-fn assert_cut(folder: &Folder, file: &str, answer: &Answer, status: i32) {
+fn assert_cut(folder: &Folder, file: &str, octets: &[u8], answer: &Answer) {
+    let status = i32::from(answer.fault != 0);
     let out = folder.word("clip");
     let order = ["cut", file, "--from=0", "--to=9999-01-01T00:00:00Z", "--mute=64499", "-o", &out];
     let run = run(&order).ended(status);
@@ -52,9 +54,21 @@ fn assert_cut(folder: &Folder, file: &str, answer: &Answer, status: i32) {
         assert_eq!(folder.read("clip"), answer.octets);
         fs::remove_file(folder.path("clip")).unwrap();
     } else {
-        run.told(&format!("fault {} at octet {} ", answer.fault, answer.place));
+        let end = Dump::read(octets).end;
+        run.told(&format!("fault {} at octet {} ", answer.fault, answer.place))
+            .told(&format!("\n  Field: {}", end.field.unwrap()))
+            .told(&kept(octets, end.record));
     }
     assert_eq!(folder.names(), ["dump"]);
+}
+
+/// What is told to be kept, which must be good.
+fn kept(octets: &[u8], record: usize) -> String {
+    assert_eq!(Dump::read(&octets[..record]).end.fault, None);
+    match record {
+        0 => "No good record stands before it.".to_string(),
+        _ => format!("(head -c {record})"),
+    }
 }
 
 #[test]
@@ -70,7 +84,7 @@ fn damaged_files() {
         let status = i32::from(answer.fault != 0);
         assert_listed(&file, &octets, status);
         assert_reported(&file, &octets, status);
-        assert_cut(&folder, &file, &answer, status);
+        assert_cut(&folder, &file, &octets, &answer);
         faults.insert(answer.fault);
     }
     assert!(faults.contains(&0) && faults.len() > 5, "too few answers: {faults:?}");

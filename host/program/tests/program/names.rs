@@ -25,14 +25,15 @@ fn text_passes_and_is_kept() {
 #[test]
 fn a_latin_name_is_told_with_its_octets() {
     let folder = Folder::new("latin");
-    let file = folder.file("dump", &dump(b"caf\xe9"));
-    let words = "fault 17 at octet 32 (0x20): a peer table's view name is not UTF-8 text\n  \
-                 The name is \"caf\\xE9\", 4 octet(s); the first that is not text is at octet 53 \
-                 (0x35).\n  1 good record(s) stand before it";
-    for command in ["check", "list", "peers", "report"] {
-        run(&[command, &file]).ended(1).told(words).told("Latin-1").told("head -c 32");
+    let (file, clip) = (folder.file("dump", &dump(b"caf\xe9")), folder.word("clip"));
+    let place = "fault 17 at octet 50 (0x32): a peer table's view name is not UTF-8 text\n";
+    let words = "\n  The name is \"caf\\xE9\", 4 octet(s); the first that is not text is at octet \
+                 53 (0x35).\n  1 good record(s) stand before it";
+    let cut = [&["cut", &file, "-o", &clip], &ALL[..]].concat();
+    let orders = ["check", "list", "peers", "report"].map(|command| vec![command, &file]);
+    for order in orders.into_iter().chain([cut]) {
+        run(&order).ended(1).told(place).told(words).told("Latin-1").told("head -c 32");
     }
-    run(&[&["cut", &file, "-o", &folder.word("clip")], &ALL[..]].concat()).ended(1).told(words);
     assert_eq!(folder.names(), ["dump"]);
 }
 
@@ -71,10 +72,10 @@ fn what_is_not_utf_8() {
         b"\xff",
     ];
     for name in bad {
-        run_fed(&["check", "-"], &dump(name)).ended(1).told("fault 17 at octet 32 ");
+        run_fed(&["check", "-"], &dump(name)).ended(1).told("fault 17 at octet 50 ");
     }
     let long = [&[b'a'; 65_534][..], b"\xc3"].concat();
-    run_fed(&["check", "-"], &dump(&long)).ended(1).told("fault 17 at octet 32 ").told("...\"aaa");
+    run_fed(&["check", "-"], &dump(&long)).ended(1).told("fault 17 at octet 50 ").told("...\"aaa");
 }
 
 /// A table that ends with its last octets taken away, their number off its Length.
@@ -88,8 +89,10 @@ fn shortened(mut table: Vec<u8>, by: usize) -> Vec<u8> {
 #[test]
 fn the_name_is_judged_when_it_is_there_and_before_the_peer_count() {
     let table = |by| shortened(named_table(1, b"caf\xe9", &[]), by);
-    for (by, number) in [(0, 17), (1, 17), (2, 17), (3, 5), (6, 5), (7, 5)] {
-        let fault = format!("fault={number} place=0\n");
+    for (by, number, place) in
+        [(0, 17, 18), (1, 17, 18), (2, 17, 18), (3, 5, 18), (6, 5, 18), (7, 5, 16)]
+    {
+        let fault = format!("fault={number} place={place}\n");
         assert_eq!(run_fed(&["list", "-"], &table(by)).ended(1).out_text(), fault, "{by}");
     }
 }
@@ -98,7 +101,7 @@ fn the_name_is_judged_when_it_is_there_and_before_the_peer_count() {
 fn the_first_record_with_a_fault_decides() {
     let bad = named_table(1, b"\xff", &[]);
     let earlier = [rib(1, &[]), bad.clone()].concat();
-    run_fed(&["check", "-"], &earlier).ended(1).told("fault 12 at octet 0 ");
+    run_fed(&["check", "-"], &earlier).ended(1).told("fault 12 at octet 6 ");
     let later = [table(1, &[]), bad, rib(1, &[0])].concat();
-    run_fed(&["check", "-"], &later).ended(1).told("fault 17 at octet 20 ");
+    run_fed(&["check", "-"], &later).ended(1).told("fault 17 at octet 38 ");
 }

@@ -75,7 +75,7 @@ fn a_refused_one_is_named_and_adds_nothing() {
     let report = run(&["report", &half, &good, &state]).ended(1);
     assert_eq!(report.out_text(), THREE_CHANGES);
     assert!(report.err.starts_with(&words), "as check tells it: {}", report.err);
-    let told = report.told(&format!("{state}: fault 9 at octet 96 (0x60): "));
+    let told = report.told(&format!("{state}: fault 9 at octet 126 (0x7e): "));
     told.told("NOT IN THE REPORT: 2 of 3 recording(s)").silent_about(&good);
 }
 
