@@ -22,8 +22,8 @@ use Rattle.record_spec.specs.declared.Shown.the-variants.{Refused}
 use Rattle.record_spec.specs.One.{readOne}
 use Rattle.record_spec.specs.Tells.{Tells}
 use Rattle.record_laws.proofs.One.{one-record}
-use Rattle.place_spec.specs.Faulty.{ends, FaultyDump}
-use Rattle.place_laws.proofs.Record.{faulty-record, place-in}
+use Rattle.place_spec.specs.Faulty.{recordEnd, FaultyDump}
+use Rattle.place_laws.proofs.Record.{faulty-record, faulty-exactly, faulty-some, place-in}
 
 module _ (longest : ℕ) where
   -- the walk w over d from offset at, where st is the table in force, went over whole records up to a fault
@@ -81,39 +81,50 @@ module _ (longest : ℕ) where
   pub faulty-dump : (d : List ℕ) → Octets d → let w = walkAll (layout longest) d in (w .fault ≡ 0 → ⊥) → FaultyDump longest d (w .fault) (w .place) (length (writes (w .recs)))
   unfolding walkAll walkFrom
   faulty-dump d oc f =
+      let w : Walk = walkAll (layout longest) d in
       let u = until (length d) noTable 0 d oc (omega arith) f in
-      let o : Octets (u .rest) = octets-right (writes (walkAll (layout longest) d .recs)) (u .rest) (subst Octets (sym (u .octets)) oc) in
+      let o : Octets (u .rest) = octets-right (writes (w .recs)) (u .rest) (subst Octets (sym (u .octets)) oc) in
+      let q : w .place - length (writes (w .recs)) ≡ u .own = omega (arith, u .place) in
       record {
-        recs = walkAll (layout longest) d .recs;
+        recs = w .recs;
         rest = u .rest;
-        some = u .some;
         octets = u .octets;
         valid = u .valid;
         starts = refl;
-        own = u .own;
-        place = omega (arith, u .place);
-        read = u .read;
-        faulty = faulty-record longest _ (u .rest) o (u .some) _ (u .own) (u .read);
+        after = omega (arith, u .place);
+        faulty = rw q (faulty-record longest _ (u .rest) o (u .some) _ (u .own) (u .read));
       }
 
   module _ (d : List ℕ) (n p start : ℕ) (h : FaultyDump longest d n p start) where
+    abbrev st : St
+    st = nexts (layout longest) (h .recs) noTable
+
     -- the place is in the dump, and in the faulty record or where it ends
-    pub place-in-dump : (start ≤ p) × (p ≤ length d) × (start + ends (h .rest) ≤ length d → p ≤ start + ends (h .rest))
+    pub place-in-dump : (start ≤ p) × (p ≤ length d) × (start + recordEnd (h .rest) ≤ length d → p ≤ start + recordEnd (h .rest))
     place-in-dump =
         let e : length (writes (h .recs)) + length (h .rest) ≡ length d = sym (length-append (writes (h .recs)) (h .rest)) ∙ ap length (h .octets) in
-        let i = place-in longest _ (h .rest) n (h .own) (h .faulty) in
-        (omega (arith, h .place), omega (arith, h .place, h .starts, i .0), λ k. omega (arith, h .place, i .1 (omega (arith, h .starts))))
+        let i = place-in longest st (h .rest) n (p - start) (h .faulty) in
+        (h .after, omega (arith, h .after, h .starts, i .0), λ k. omega (arith, h .after, i .1 (omega (arith, h .starts))))
 
     -- the octets before the faulty record are whole records
-    pub splits-before : Splits (layout longest) (take start d)
-    splits-before = (h .recs, h .valid, sym (rw (← (h .octets), h .starts) (take-at (writes (h .recs)) (h .rest) (length (writes (h .recs))) refl)))
+    pub taken-before : take start d ≡ writes (h .recs)
+    taken-before = rw (← (h .octets), h .starts) (take-at (writes (h .recs)) (h .rest) (length (writes (h .recs))) refl)
 
-    -- the faulty record by itself, where the table in force is told: the same fault, its place less the offset where the record starts
-    pub shown-alone : Octets d → (t : Table) → Tells t (nexts (layout longest) (h .recs) noTable) → readOne longest t (drop start d) ≡ Refused n (p - start)
-    shown-alone oc t told =
-        let st : St = nexts (layout longest) (h .recs) noTable in
-        let r : drop start d ≡ h .rest = rw (← (h .octets), h .starts) (drop-at (writes (h .recs)) (h .rest) (length (writes (h .recs))) refl) in
+    pub splits-before : Splits (layout longest) (take start d)
+    splits-before = (h .recs, h .valid, sym taken-before)
+
+    -- the faulty record is the rest
+    pub rest-is : drop start d ≡ h .rest
+    rest-is = rw (← (h .octets), h .starts) (drop-at (writes (h .recs)) (h .rest) (length (writes (h .recs))) refl)
+
+    -- read by itself, it has the same fault, its place less the offset where it starts
+    pub read-alone : Octets d → readRec (layout longest) st 0 (h .rest) ≡ bad n (p - start)
+    read-alone oc =
         let o : Octets (h .rest) = octets-right (writes (h .recs)) (h .rest) (subst Octets (sym (h .octets)) oc) in
-        let a : readOne longest t (h .rest) ≡ Refused n (h .own) = rw (h .read) at (one-record longest t st told (h .rest) o (h .some)) in
-        let q : h .own ≡ p - start = omega (arith, h .place) in
-        rw r (a ∙ ap (Refused n) q)
+        faulty-exactly longest st (h .rest) o (faulty-some longest st (h .rest) n (p - start) (h .faulty)) n (p - start) .0 (h .faulty)
+
+    -- and so it is shown, where the table in force is told
+    pub shown-alone : Octets d → (t : Table) → Tells t st → readOne longest t (drop start d) ≡ Refused n (p - start)
+    shown-alone oc t told =
+        let o : Octets (h .rest) = octets-right (writes (h .recs)) (h .rest) (subst Octets (sym (h .octets)) oc) in
+        rw rest-is (rw (read-alone oc) at (one-record longest t st told (h .rest) o (faulty-some longest st (h .rest) n (p - start) (h .faulty))))

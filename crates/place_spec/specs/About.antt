@@ -2,44 +2,52 @@
 use mathlib.Core.Bool.{Bool, true, false, _&&_, _||_}
 use Prim.Native.Nat.{ℕ}
 use lib.Dec.{eqb}
-use Rattle.page_spec.specs.Names.{peerIndex, family, safi, prefixBits, oldState, newState, bgpLength, attributeOctets, viewName}
+use Rattle.form_spec.specs.Words.{_$_, choose}
+use Rattle.page_spec.specs.Names.{peerIndex, family, safi, prefixBits, oldState, newState, bgpLength, bgpRest, attributeOctets, viewName}
 
 -- a header's fields have names here too
-abbrev pub timestamp : ℕ
-timestamp = 4
+abbrev pub timestampField : ℕ
+timestampField = 4
 
-abbrev pub type : ℕ
-type = 5
+abbrev pub typeField : ℕ
+typeField = 5
 
-abbrev pub subtype : ℕ
-subtype = 6
+abbrev pub subtypeField : ℕ
+subtypeField = 6
 
-abbrev pub messageLength : ℕ
-messageLength = 7
+abbrev pub lengthField : ℕ
+lengthField = 7
 
--- the fault n is placed at the field x, where k fields are there from x on when it is found
-abbrev row : (n x k fault name there : ℕ) → Bool
-row n x k fault name there = eqb fault n && eqb name x && eqb there k
+abbrev row : (n x fault name : ℕ) → Bool
+row n x fault name = eqb fault n && eqb name x
 
-unfoldable pub about : (fault name there : ℕ) → Bool
-about n x k =
-    -- a field that is not complete; octets left over behind the last field
-    (eqb n 5 && eqb k 0)
-    || row 6 0 0 n x k
-    -- a header is judged as a whole
-    || row 3 type 3 n x k
-    || row 4 subtype 2 n x k
-    || row 12 subtype 2 n x k
-    -- a field's own check
-    || row 7 family 1 n x k
-    || row 7 safi 1 n x k
-    || row 8 prefixBits 1 n x k
-    || row 9 oldState 1 n x k
-    || row 9 newState 1 n x k
-    || row 11 attributeOctets 1 n x k
-    || row 13 peerIndex 1 n x k
-    || row 17 viewName 1 n x k
-    -- a BGP length is judged with the type octet behind it; then it disagrees with the record
-    || row 10 bgpLength 2 n x k
-    || row 5 bgpLength 2 n x k
-    || row 6 bgpLength 3 n x k
+-- by the field's name: 5 at any, 6 where no field is left, the others at these
+unfoldable pub about : (fault name : ℕ) → Bool
+about n x =
+    eqb n 5
+    || row 3 typeField n x
+    || row 4 subtypeField n x
+    || row 12 subtypeField n x
+    || row 7 family n x
+    || row 7 safi n x
+    || row 8 prefixBits n x
+    || row 9 oldState n x
+    || row 9 newState n x
+    || row 10 bgpLength n x
+    || row 11 attributeOctets n x
+    || row 13 peerIndex n x
+    || row 17 viewName n x
+    || row 6 0 n x
+    || row 6 bgpLength n x
+
+-- by how many fields are complete from there on when the fault is found, where these names have the latest of them and the one that follows: a
+-- header is judged as a whole; a BGP length with the type octet behind it, and again where the message's rest lacks octets or leaves some over;
+-- else a field that lacks octets is placed there, and so are octets left over; the others are judged when they are complete
+unfoldable pub thereFrom : (fault latest next : ℕ) → ℕ
+thereFrom n latest next =
+    choose (eqb n 3) 3
+    $ choose (eqb n 4 || eqb n 12) 2
+    $ choose (eqb n 10) 2
+    $ choose (eqb n 5) (choose (eqb next bgpRest) 2 0)
+    $ choose (eqb n 6) (choose (eqb latest bgpRest) 3 0)
+    $ 1

@@ -8,23 +8,24 @@ use Prim.Native.Nat.{ℕ, _<_}
 use lib.Dec.{eqb}
 use lib.ListN.{length}
 use Rattle.form_spec.specs.Fmt.{Fmt, end, test, field, join}
+use Rattle.place_spec.specs.About.{about, thereFrom}
 
 -- what the format lays out behind its first fields cs
-unfoldable pub behind : Fmt → List (List ℕ) → Fmt
-behind (end b) cs = end b
-behind (test n b f) [] = test n b f
-behind (test n b f) (c ∷ cs) = behind f (c ∷ cs)
-behind (field x l b k) [] = field x l b k
-behind (field x l b k) (c ∷ cs) = behind (k c) cs
+unfoldable pub behindFields : Fmt → List (List ℕ) → Fmt
+behindFields (end b) cs = end b
+behindFields (test n b f) [] = test n b f
+behindFields (test n b f) (c ∷ cs) = behindFields f (c ∷ cs)
+behindFields (field x l b k) [] = field x l b k
+behindFields (field x l b k) (c ∷ cs) = behindFields (k c) cs
 
 -- cs are its first fields: each is complete, and the tests between them pass
-unfoldable pub Passes : Fmt → List (List ℕ) → Type 0
-Passes (end b) [] = Unit
-Passes (end b) (c ∷ cs) = ⊥
-Passes (test n b f) [] = Unit
-Passes (test n b f) (c ∷ cs) = (n ≡ 0) × Passes f (c ∷ cs)
-Passes (field x l b k) [] = Unit
-Passes (field x l b k) (c ∷ cs) = (length c ≡ l) × Passes (k c) cs
+unfoldable pub FieldsPass : Fmt → List (List ℕ) → Type 0
+FieldsPass (end b) [] = Unit
+FieldsPass (end b) (c ∷ cs) = ⊥
+FieldsPass (test n b f) [] = Unit
+FieldsPass (test n b f) (c ∷ cs) = (n ≡ 0) × FieldsPass f (c ∷ cs)
+FieldsPass (field x l b k) [] = Unit
+FieldsPass (field x l b k) (c ∷ cs) = (length c ≡ l) × FieldsPass (k c) cs
 
 -- the numbers that a test gives; 5 and 6 are about octets that are not there, or too many
 unfoldable pub judged : ℕ → Bool
@@ -47,10 +48,10 @@ Lacks (test n b f) r = (n ≡ 0) × Lacks f r
 Lacks (field x l b k) r = length r < l
 
 -- it has no field more
-unfoldable pub Ends : Fmt → Type 0
-Ends (end b) = Unit
-Ends (test n b f) = (n ≡ 0) × Ends f
-Ends (field x l b k) = ⊥
+unfoldable pub NoFieldLeft : Fmt → Type 0
+NoFieldLeft (end b) = Unit
+NoFieldLeft (test n b f) = (n ≡ 0) × NoFieldLeft f
+NoFieldLeft (field x l b k) = ⊥
 
 -- the name of the format's first field; 0 where it has none
 unfoldable pub nameOf : Fmt → ℕ
@@ -58,15 +59,22 @@ nameOf (end b) = 0
 nameOf (test n b f) = nameOf f
 nameOf (field x l b k) = x
 
--- `about` says at which field a fault is placed, and how many fields are there from it on when the fault is found
-module _ (about : (fault name there : ℕ) → Bool) where
-  -- the octets m, read by the format, have the fault n at the place p: the fields before it, those there from it on, and the octets left
-  pub record Failed (f : Fmt) (m : List ℕ) (n p : ℕ) : Type 0 where
-    pub before : List (List ℕ)
-    pub there : List (List ℕ)
-    pub rest : List ℕ
-    pub octets : join before ++ (join there ++ rest) ≡ m
-    pub place : p ≡ length (join before)
-    pub passes : Passes f before
-    pub fails : Fails (behind f before) there rest n
-    pub names : about n (nameOf (behind f before)) (length there) ≡ true
+-- the name of the last of its first fields cs, where `before` is that of the field before them
+unfoldable pub latestOf : (before : ℕ) → Fmt → List (List ℕ) → ℕ
+latestOf p (end b) cs = p
+latestOf p (test n b f) cs = latestOf p f cs
+latestOf p (field x l b k) [] = p
+latestOf p (field x l b k) (c ∷ cs) = latestOf x (k c) cs
+
+-- the octets m, read by the format behind a field of the name `behind`, have the fault n at the place p: the fields before it, those complete
+-- from it on, and the octets left; how many fields are complete from it on, and the field's name, are as the table of places says
+pub record Failed (behind : ℕ) (f : Fmt) (m : List ℕ) (n p : ℕ) : Type 0 where
+  pub before : List (List ℕ)
+  pub there : List (List ℕ)
+  pub rest : List ℕ
+  pub octets : join before ++ (join there ++ rest) ≡ m
+  pub place : p ≡ length (join before)
+  pub passes : FieldsPass f before
+  pub fails : Fails (behindFields f before) there rest n
+  pub counts : length there ≡ thereFrom n (latestOf behind f (before ++ there)) (nameOf (behindFields f (before ++ there)))
+  pub names : about n (nameOf (behindFields f before)) ≡ true

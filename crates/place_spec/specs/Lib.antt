@@ -1,3 +1,3 @@
-pub mod Failed
 pub mod About
+pub mod Failed
 pub mod Faulty

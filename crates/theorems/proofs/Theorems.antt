@@ -24,10 +24,10 @@
 --   numberAt       record_spec/specs/Reads   the number that reading gives the record that starts the octets
 --   WholeTable     record_spec/specs/Named   a whole record of Type 13, Subtype 1, starts the octets; with `Named`: its message holds all of the
 --                                            view name, which is `nameIn`
---   FaultyDump     place_spec/specs/Faulty   a dump with a fault at a place; with `Faulty`, of one record's octets, and `ends`, where it ends
---   Failed         place_spec/specs/Failed   a format's octets with a fault at a place: the fields before it, those there from it on, what is
---                                            left; with `behind`, `Lacks`, `Ends` and `nameOf`, which say what the format lays out there
---   about          place_spec/specs/About    at which field a fault is placed
+--   FaultyDump     place_spec/specs/Faulty   a dump with a fault at a place; with `Faulty`, of one record's octets, and `recordEnd`, where it ends
+--   Failed         place_spec/specs/Failed   a format's octets with a fault at a place: the fields before it, those complete from it on, what is
+--                                            left; which field that is, `place_spec/specs/About` says; with `behindFields`, `Lacks`,
+--                                            `NoFieldLeft`, `nameOf` and `latestOf`, which say what the format lays out there
 --   Own, Placed    write_spec/specs/Only, form_spec/specs/Aligned  whose a record is; each number goes into its field, each part has its size
 --   numberFor      room_spec/specs/Room      the fault, then 15
 --   listing        listing_spec/specs/Text   the text that the program prints
@@ -57,7 +57,7 @@ use Rattle.text_spec.specs.Text.{Text, Spelled}
 use Rattle.text_spec.specs.Grammar.{Parsed}
 use Rattle.text_spec.specs.Check.{isText}
 use Rattle.octets_spec.specs.Be.{numAt}
-use Rattle.page_spec.specs.Names.{bgpLength}
+use Rattle.page_spec.specs.Names.{bgpRest}
 use Rattle.page_spec.specs.Layout.{layout}
 use Rattle.page_spec.specs.Rib.{entry}
 use Rattle.page_spec.specs.declared.Kind.{Kind}
@@ -89,9 +89,8 @@ use Rattle.record_spec.specs.Agrees.{Agrees, Same, writerOf}
 use Rattle.record_spec.specs.Again.{again}
 use Rattle.record_laws.proofs.Written.{Fair}
 use Rattle.record_spec.specs.Named.{WholeTable, Named, nameIn}
-use Rattle.place_spec.specs.Failed.{behind, Lacks, Ends, nameOf, Failed}
-use Rattle.place_spec.specs.About.{about}
-use Rattle.place_spec.specs.Faulty.{ends, Faulty, FaultyDump}
+use Rattle.place_spec.specs.Failed.{behindFields, Lacks, NoFieldLeft, nameOf, latestOf, Failed}
+use Rattle.place_spec.specs.Faulty.{recordEnd, Faulty, FaultyDump}
 use Rattle.walk_spec.specs.Walked.{walked}
 use Rattle.walk_spec.specs.Steps.{stepAt}
 use Rattle.walk_spec.specs.Answer.{Steps}
@@ -170,39 +169,46 @@ module _ (longest : ℕ) where
   pub fault-has-number-and-place : (t : Table) (st : St) → Tells t st → (s : List ℕ) → Octets s → 0 < length s → Agrees longest s (readRec (layout longest) st 0 s) (readOne longest t s)
   fault-has-number-and-place t st told s o some = one.one-record longest t st told s o some
 
-  -- the place of a fault is the first octet of the field that failed. Whole records stand before the faulty one; read by itself it has the
-  -- same fault, at the dump's place less the offset where it starts; and its octets are as the fault says: those before the place are fields
-  -- that pass, the field at the place is the one that `about` names for the number, and there it fails
+  -- the place of a fault is the first octet of the field that failed. Whole records stand before the faulty one, and of its octets those before
+  -- the place are fields that pass; the field that starts there is the one that the table of places names for the number; and there it fails
   pub fault-is-at-its-field : (d : List ℕ) → Octets d → let w = walked longest d in (w .fault ≡ 0 → ⊥) → FaultyDump longest d (w .fault) (w .place) (w .start)
   unfolding walked
   fault-is-at-its-field d o h = dump-places.faulty-dump longest d o h
 
-  -- and so a reader that is told the table in force there refuses that record with the same number, at the place less that offset
+  -- and a dump that is so has that fault, at that place: no other is said of the same octets
+  pub faulty-dump-is-answered : (d : List ℕ) → Octets d → (n p start : ℕ) (h : FaultyDump longest d n p start)
+      → walked longest d ≡ record { fault = n; place = p; start = start; records = length (h .recs) }
+  faulty-dump-is-answered d o n p start h = dumps.faulty-answer longest d o n p start h
+
+  -- the same of one record, by its own octets
+  pub record-fault-exactly : (st : St) (s : List ℕ) → Octets s → 0 < length s → (n p : ℕ) → Faulty longest st s n p ↔ (readRec (layout longest) st 0 s ≡ bad n p)
+  record-fault-exactly st s o some n p = record-places.faulty-exactly longest st s o some n p
+
+  -- a reader that is told the table in force refuses the faulty record with the same number, at the dump's place less the offset where the
+  -- record starts
   pub reader-has-the-place-less-the-offset : (d : List ℕ) → Octets d → (n p start : ℕ) (h : FaultyDump longest d n p start) (t : Table) → Tells t (nexts (layout longest) (h .recs) noTable)
       → readOne longest t (drop start d) ≡ Refused n (p - start)
   reader-has-the-place-less-the-offset d o n p start h t told = dump-places.shown-alone longest d n p start h o t told
 
-  -- the same of one record, by its own octets
-  pub record-fault-is-at-its-field : (st : St) (s : List ℕ) → Octets s → 0 < length s → (n p : ℕ) → readRec (layout longest) st 0 s ≡ bad n p → Faulty longest st s n p
-  record-fault-is-at-its-field st s o some n p e = record-places.faulty-record longest st s o some n p e
-
   -- the place is in the dump, and in the faulty record or where it ends
   pub place-is-in-the-record : (d : List ℕ) (n p start : ℕ) (h : FaultyDump longest d n p start)
-      → (start ≤ p) × (p ≤ length d) × (start + ends (h .rest) ≤ length d → p ≤ start + ends (h .rest))
+      → (start ≤ p) × (p ≤ length d) × (start + recordEnd (h .rest) ≤ length d → p ≤ start + recordEnd (h .rest))
   place-is-in-the-record d n p start h = dump-places.place-in-dump longest d n p start h
 
   -- what stands before the faulty record is a dump that is accepted
   pub accepted-before-the-fault : (d : List ℕ) → Octets d → (n p start : ℕ) → FaultyDump longest d n p start → walked longest (take start d) .fault ≡ 0
   accepted-before-the-fault d o n p start h = dumps.accepted-before longest d o n p start h
 
--- 5: a field starts at the place, and the message ends before it is complete; or the field is a BGP length
-pub five-lacks-octets : (f : Fmt) (m : List ℕ) (p : ℕ) (h : Failed about f m 5 p) → ((h .there ≡ []) × Lacks (behind f (h .before)) (h .rest)) ⊎ (nameOf (behind f (h .before)) ≡ bgpLength)
-five-lacks-octets f m p h = about-places.incomplete f m p h
+module _ (before : ℕ) (f : Fmt) (m : List ℕ) (p : ℕ) where
+  -- 5: a field starts at the place, and the octets end before it is complete; or it is a BGP length, 2 fields before the message's rest, which is not
+  pub five-lacks-octets : (h : Failed before f m 5 p) → ((h .there ≡ []) × Lacks (behindFields f (h .before)) (h .rest))
+      ⊎ ((nameOf (behindFields f (h .before ++ h .there)) ≡ bgpRest) × (length (h .there) ≡ 2))
+  five-lacks-octets h = about-places.incomplete before f m p h
 
--- 6: all fields end at the place, and octets are left; or the field is a BGP length
-pub six-leaves-octets : (f : Fmt) (m : List ℕ) (p : ℕ) (h : Failed about f m 6 p)
-    → ((h .there ≡ []) × Ends (behind f (h .before)) × (0 < length (h .rest))) ⊎ (nameOf (behind f (h .before)) ≡ bgpLength)
-six-leaves-octets f m p h = about-places.left-over f m p h
+  -- 6: all fields end at the place, and octets are left; or it is a BGP length, 3 fields before what is left
+  pub six-leaves-octets : (h : Failed before f m 6 p) → ((h .there ≡ []) × NoFieldLeft (behindFields f (h .before)) × (0 < length (h .rest)))
+      ⊎ ((latestOf before f (h .before ++ h .there) ≡ bgpRest) × (length (h .there) ≡ 3))
+  six-leaves-octets h = about-places.left-over before f m p h
 
 -- ==== Demand 2. A dump is accepted exactly when it splits into whole records, and the records are what the bytes say.
 

@@ -1,21 +1,25 @@
 -- The walk, in the terms of its promise: no fault exactly where a dump splits into whole records; one dump after another.
-use mathlib.Core.Path.{_≡_, sym, ap, _∙_, subst}
+use mathlib.Core.Path.{_≡_, refl, sym, ap, _∙_, subst}
 use mathlib.Core.Logic.{_↔_}
 use mathlib.Core.List.{List, [], _∷_, _++_, append-assoc}
-use Prim.Native.Nat.{ℕ, _+_}
+use Prim.Native.Nat.{ℕ, _+_, _-_}
 use native.Mathlib.Omega.{arith}
 use native.Mathlib.Nat.{add-zero, zero-add}
 use lib.ListN.{length, take, length-append}
 use Rattle.form_spec.specs.Octets.{Octets}
 use Rattle.form_spec.specs.Shape.{St, noTable}
-use Rattle.form_spec.specs.Record.{Rec, write, size, next}
-use Rattle.form_spec.specs.Dump.{writes, walkFrom, walkAll, Valids, Splits, nexts}
+use Rattle.form_spec.specs.Fmt.{bad}
+use Rattle.form_spec.specs.Record.{Rec, write, size, readRec, next}
+use Rattle.form_spec.specs.Dump.{stop, writes, walkFrom, walkAll, Valids, Splits, nexts}
 use Rattle.form_laws.proofs.Octets.{octets-append, octets-right, octets-take}
 use Rattle.form_laws.proofs.Record.{length-write, complete-rec}
+use Rattle.form_laws.proofs.Moved.{moved-record}
 use Rattle.form_laws.proofs.Dump.{walk-on, accepts, shows, unique, splits-append, writes-append}
 use Rattle.page_spec.specs.Layout.{layout}
+use Rattle.page_laws.proofs.Inside.{inside}
 use Rattle.place_spec.specs.Faulty.{FaultyDump}
-use Rattle.place_laws.proofs.Dump.{splits-before}
+use Rattle.place_laws.proofs.Record.{faulty-some}
+use Rattle.place_laws.proofs.Dump.{taken-before, splits-before, read-alone}
 use Rattle.walk_spec.specs.Walked.{befores, walkedOf, walked}
 
 module _ (longest : ℕ) where
@@ -73,3 +77,18 @@ module _ (longest : ℕ) where
   past-accepted a b p q s =
       let o : Octets (writes (s .0) ++ b) = subst (λ (x : List ℕ). Octets (x ++ b)) (sym (s .2)) (octets-append a b p q) in
       ap walkedOf (rw (s .2, zero-add) at (past-records (s .0) noTable 0 b (s .1) o)) ∙ rw (writes-append, length-append, length-append, s .2)
+
+  -- ---- a faulty dump: octets that are as a fault and its place say are answered with them
+
+  pub faulty-answer : (d : List ℕ) → Octets d → (n p start : ℕ) (h : FaultyDump longest d n p start)
+      → walked longest d ≡ record { fault = n; place = p; start = start; records = length (h .recs) }
+  faulty-answer d oc n p start h =
+      let a : List ℕ = writes (h .recs) in
+      let b : List ℕ = h .rest in
+      let oa : Octets a = subst Octets (taken-before longest d n p start h) (octets-take start d oc) in
+      let ob : Octets b = octets-right a b (subst Octets (sym (h .octets)) oc) in
+      let st : St = nexts (layout longest) (h .recs) noTable in
+      let q : start + (p - start) ≡ p = omega (arith, h .after) in
+      let r : readRec (layout longest) st (length a) b ≡ bad n p = rw (← (h .starts)) (rw (add-zero, read-alone longest d n p start h oc, q) at (moved-record (layout longest) (inside longest) st start 0 b)) in
+      let w : walkFrom (layout longest) st (length a) b ≡ stop n p = rw (walk-on (layout longest) st (length a) b ob (faulty-some longest st b n (p - start) (h .faulty)), r) in
+      rw (← (h .octets)) (past-accepted a b oa ob (h .recs, h .valid, refl) ∙ rw (w, add-zero, add-zero, ← (h .starts)))
