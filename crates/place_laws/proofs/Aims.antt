@@ -1,7 +1,7 @@
 -- Every layout places its faults at first octets of fields, as the table of places says.
 use mathlib.Core.Path.{_≡_, refl}
-use mathlib.Core.Bool.{Bool, true, false, cond, _||_}
-use mathlib.Core.Logic.{_⊎_, inl, inr, ⊎-elim}
+use mathlib.Core.Bool.{Bool, true, false, cond}
+use mathlib.Core.Logic.{inl, inr}
 use mathlib.Core.List.{List, [], _∷_}
 use Prim.Native.Nat.{ℕ, zero, suc, _+_, _-_, _*_, _/_, _%_, _≤_}
 use native.Mathlib.Omega.{arith}
@@ -20,10 +20,10 @@ use Rattle.page_spec.specs.Bgp4mp.{addresses, session, state, stateChange, mess
 use Rattle.page_spec.specs.Rib.{tiling, attributes, entryRest, prefix, ribHead, genericHead}
 use Rattle.page_spec.specs.TableDump.{tableDumpRest, tableDump}
 use Rattle.page_spec.specs.Peers.{peerRest, peerSized, peer, tableHead}
-use Rattle.page_spec.specs.Layout.{kind12, kind13, kind16, kind, stamped, layoutFor, layout}
+use Rattle.page_spec.specs.Layout.{kind, stamped, layoutFor, layout}
 use Rattle.page_spec.specs.declared.Kind.{Kind}
 use Rattle.page_spec.specs.declared.Kind.the-variants.{Refused, Unread, TableDump, PeerTable, Rib, RibGeneric, Change, Message}
-use Rattle.page_laws.proofs.Choice as choice
+use Rattle.page_laws.proofs.Refused.{Refuses, refuses}
 use Rattle.place_spec.specs.About.{timestampField, typeField, subtypeField, lengthField, about, thereFrom}
 use Rattle.place_spec.specs.Failed.{judged, nameOf}
 use Rattle.place_spec.specs.Faulty.{headerThen}
@@ -230,50 +230,6 @@ unfolding about judged thereFrom choose
 aims-table t e = aims-num Calm _ 4 t refl _ (λ c. aims-num Calm _ 2 _ refl _ (λ n. aims-tested Calm _ n _ refl _ 16 _ (refl, refl, λ y. refl) (open-end _ refl)))
 
 -- ---- whatever the Type and the Subtype
-
--- a header is refused for its Type or for its Subtype
-abbrev Refuses : Kind → Type 0
-Refuses (Refused n p) = ((n ≡ 3) × (p ≡ 4)) ⊎ ((n ≡ 4) × (p ≡ 6))
-Refuses (Unread micro) = Unit
-Refuses (TableDump size) = Unit
-Refuses PeerTable = Unit
-Refuses (Rib bits) = Unit
-Refuses RibGeneric = Unit
-Refuses (Change micro w) = Unit
-Refuses (Message micro w) = Unit
-
-unlisted : Refuses (Refused 4 6)
-unlisted = inr (refl, refl)
-
-refuses-12 : (u : ℕ) → Refuses (kind12 u)
-unfolding kind12
-refuses-12 u = choice.by-test Refuses (eqb u 1) _ _ (λ e. tt) (choice.by-test Refuses (eqb u 2) _ _ (λ e. tt) unlisted)
-
-refuses-13 : (u : ℕ) → Refuses (kind13 u)
-unfolding kind13
-refuses-13 u =
-    choice.by-test Refuses (eqb u 1) _ _ (λ e. tt)
-    (choice.by-test Refuses (inRange 2 u 3) _ _ (λ e. tt)
-    (choice.by-test Refuses (inRange 4 u 5) _ _ (λ e. tt)
-    (choice.by-test Refuses (eqb u 6) _ _ (λ e. tt) unlisted)))
-
-refuses-16 : (micro u : ℕ) → Refuses (kind16 micro u)
-unfolding kind16
-refuses-16 micro u =
-    choice.by-test Refuses (eqb u 0) _ _ (λ e. tt)
-    (choice.by-test Refuses (eqb u 5) _ _ (λ e. tt)
-    (choice.by-test Refuses (eqb u 1 || eqb u 6) _ _ (λ e. tt)
-    (choice.by-test Refuses (eqb u 4 || eqb u 7) _ _ (λ e. tt) unlisted)))
-
-refuses : (y u : ℕ) → Refuses (kind y u)
-unfolding kind
-refuses y u =
-    choice.by-test Refuses (eqb y 11 || eqb y 32 || eqb y 48) _ _ (λ e. tt)
-    (choice.by-test Refuses (eqb y 33 || eqb y 49) _ _ (λ e. tt)
-    (choice.by-test Refuses (eqb y 12) _ _ (λ e. refuses-12 u)
-    (choice.by-test Refuses (eqb y 13) _ _ (λ e. refuses-13 u)
-    (choice.by-test Refuses (eqb y 16) _ _ (λ e. refuses-16 0 u)
-    (choice.by-test Refuses (eqb y 17) _ _ (λ e. refuses-16 4 u) (inl (refl, refl)))))))
 
 -- behind a header
 abbrev header : Trail

@@ -6,7 +6,7 @@ use mathlib.Core.List.{List, [], _∷_, _++_}
 use Prim.Native.Nat.{ℕ, zero, suc, _+_, _-_, _≤_, _<_}
 use native.Mathlib.Omega.{arith}
 use lib.Dec.{ltb}
-use lib.ListN.{length, take, drop, length-drop, length-append}
+use lib.ListN.{length, take, drop, length-append}
 use lib.Seq.{drop-drop, drop-at, take-add, length-take-le}
 use borrow.Author.Tests.{ltb-true, ltb-false, lt-ltb, le-ltb}
 use Rattle.form_spec.specs.Octets.{Octets}
@@ -20,7 +20,7 @@ use Rattle.form_laws.proofs.Many.{flatBody, body-many}
 use Rattle.octets_spec.specs.Be.{numAt}
 use Rattle.page_spec.specs.Layout.{layout}
 use Rattle.record_laws.proofs.Same.{rec}
-use Rattle.record_laws.proofs.One.{rec-header, short-header}
+use Rattle.record_laws.proofs.One.{header-complete, rec-header, short-header}
 use Rattle.place_spec.specs.About.{timestampField, typeField, subtypeField, lengthField}
 use Rattle.place_spec.specs.Failed.{judged, Failed}
 use Rattle.place_spec.specs.Faulty.{headerThen, FailedRecord, recordEnd, laidOut, Faulty}
@@ -38,12 +38,7 @@ differ o n p a r b g = let e : bad n p ≡ good a r = sym b ∙ g in let x : _�
 -- behind the header's 12 octets the message's fields are read
 finish-header : (f : Fmt) (m : List ℕ) → 12 ≤ length m → finish (headerThen f) 0 m ≡ finish f 12 (drop 12 m)
 unfolding finish
-finish-header f m h =
-    let a : 4 ≤ length m = omega arith in
-    let b : 2 ≤ length (drop 4 m) = rw length-drop (omega arith) in
-    let c : 2 ≤ length (drop 6 m) = rw length-drop (omega arith) in
-    let d : 4 ≤ length (drop 8 m) = rw length-drop (omega arith) in
-    rw (le-ltb _ _ a, le-ltb _ _ b, drop-drop 2 4 m, le-ltb _ _ c, drop-drop 2 6 m, le-ltb _ _ d, drop-drop 4 8 m)
+finish-header f m h = let c = header-complete m h in rw (c .0, c .1, drop-drop 2 4 m, c .2, drop-drop 2 6 m, c .3, drop-drop 4 8 m)
 
 -- reading fields alone leaves octets over, and that is no fault
 no-six : (f : Fmt) (t : Trail) → Aims f t → (at : ℕ) (bs : List ℕ) (n p : ℕ) → read f at bs ≡ bad n p → n ≡ 6 → ⊥

@@ -1,6 +1,7 @@
 -- Which numbers the fault of a record can have: those up to 13, and 17 where a peer table's message holds all of a view name that is not text.
 use mathlib.Core.Path.{_≡_, refl, subst}
 use mathlib.Core.Bool.{Bool, true, false, cond}
+use mathlib.Core.Logic.{⊎-elim}
 use mathlib.Core.List.{List, [], _∷_}
 use Prim.Native.Nat.{ℕ, zero, suc, _+_, _-_, _/_, _%_, _≤_}
 use native.Mathlib.Omega.{arith}
@@ -21,10 +22,11 @@ use Rattle.page_spec.specs.Rib.{tiling, attributes, entryRest, prefix, ribHead,
 use Rattle.page_spec.specs.TableDump.{tableDumpRest, tableDump}
 use Rattle.page_spec.specs.Peers.{peerRest, peerSized, peer, tableHead}
 use Rattle.page_spec.specs.Tiles.{tiles}
-use Rattle.page_spec.specs.Layout.{kind12, kind13, kind16, kind, stamped, layoutFor, layout}
+use Rattle.page_spec.specs.Layout.{kind, stamped, layoutFor, layout}
 use Rattle.page_spec.specs.declared.Kind.{Kind}
 use Rattle.page_spec.specs.declared.Kind.the-variants.{Refused, Unread, TableDump, PeerTable, Rib, RibGeneric, Change, Message}
-use Rattle.page_laws.proofs.Choice.{Says, by-test, kind-says}
+use Rattle.page_laws.proofs.Choice.{Says, kind-says}
+use Rattle.page_laws.proofs.Refused.{Refuses, refuses}
 use Rattle.record_spec.specs.Named.{Named, nameIn}
 use Rattle.record_laws.proofs.One.{rec-header, short-header}
 use Rattle.record_laws.proofs.Head.{by-name, nameOf, messageIn, held-in-record, name-in-message}
@@ -110,34 +112,6 @@ low-peer = low-num _ _ _ λ t. low-num _ _ _ λ b. low-choose (eqb (t % 2) 1) _ 
 low-entry : Low entryRest
 low-entry = low-num _ _ _ λ t. low-attributes
 
--- ---- whatever the Type and the Subtype
-
-abbrev LowKind : Kind → Type 0
-LowKind (Refused n p) = n ≤ 13
-LowKind (Unread micro) = Unit
-LowKind (TableDump size) = Unit
-LowKind PeerTable = Unit
-LowKind (Rib bits) = Unit
-LowKind RibGeneric = Unit
-LowKind (Change micro w) = Unit
-LowKind (Message micro w) = Unit
-
-low-either : (t : Bool) (k j : Kind) → LowKind k → LowKind j → LowKind (choose t k j)
-low-either t k j h g = by-test LowKind t k j (λ e. h) g
-
-low-16 : (micro sub : ℕ) → LowKind (kind16 micro sub)
-unfolding kind16
-low-16 micro u = low-either _ _ _ tt (low-either _ _ _ tt (low-either _ _ _ tt (low-either _ _ _ tt (omega arith))))
-
-low-kind : (type sub : ℕ) → LowKind (kind type sub)
-unfolding kind kind12 kind13
-low-kind y u =
-    low-either _ _ _ tt
-    (low-either _ _ _ tt
-    (low-either _ _ _ (low-either _ _ _ tt (low-either _ _ _ tt (omega arith)))
-    (low-either _ _ _ (low-either _ _ _ tt (low-either _ _ _ tt (low-either _ _ _ tt (low-either _ _ _ tt (omega arith)))))
-    (low-either _ _ _ (low-16 0 u) (low-either _ _ _ (low-16 4 u) (omega arith))))))
-
 -- ---- what reading finds: a number with P, which all up to 13 have
 
 module _ (P : ℕ → Type 0) (low : (n : ℕ) → n ≤ 13 → P n) where
@@ -196,9 +170,9 @@ module _ (P : ℕ → Type 0) (low : (n : ℕ) → n ≤ 13 → P n) where
 
   module _ (longest : ℕ) (st : St) where
     -- a message, by its kind
-    found-body : (k : Kind) (at : ℕ) (bs : List ℕ) → LowKind k → (k ≡ PeerTable → 6 + numAt bs 4 2 ≤ length bs → isText (nameOf bs) ≡ false → P 17) → Found (readBody (plan st (layoutFor longest k)) at bs)
+    found-body : (k : Kind) (at : ℕ) (bs : List ℕ) → Refuses k → (k ≡ PeerTable → 6 + numAt bs 4 2 ≤ length bs → isText (nameOf bs) ≡ false → P 17) → Found (readBody (plan st (layoutFor longest k)) at bs)
     unfolding plan layoutFor readBody Low
-    found-body (Refused n p) at bs h w = found-just (test n (12 - p) (end 0)) at bs (h, tt)
+    found-body (Refused n p) at bs h w = found-just (test n (12 - p) (end 0)) at bs (⊎-elim (λ z. omega (arith, z .0)) (λ z. omega (arith, z .0)) h, tt)
     found-body (Unread micro) at bs h w = found-bind (read (stamped micro (end 0)) at bs) _ (found-read (stamped micro (end 0)) at bs (low-stamped micro (end 0) tt)) (λ cs r. none)
     found-body (TableDump size) at bs h w = found-just (tableDump size) at bs (low-table-dump size)
     found-body PeerTable at bs h w =
@@ -234,4 +208,4 @@ module _ (P : ℕ → Type 0) (low : (n : ℕ) → n ≤ 13 → P n) where
             rw (rec-header longest st at s l)
             (found-refuse (ltb (length s - 12) (numAt s 8 4)) 2 at _ (omega arith) λ f.
             found-bind (readBody (plan st (layout longest y u)) (at + 12) (messageIn s)) _
-            (found-body (kind y u) (at + 12) (messageIn s) (low-kind y u) (named (omega (arith, ltb-false (length s - 12) (numAt s 8 4) f)))) (λ b q. none))
+            (found-body (kind y u) (at + 12) (messageIn s) (refuses y u) (named (omega (arith, ltb-false (length s - 12) (numAt s 8 4) f)))) (λ b q. none))

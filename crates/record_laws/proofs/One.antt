@@ -69,14 +69,18 @@ module _ (longest : ℕ) (s m q : List ℕ) (l : Stands s m q (numAt m 8 4)) (ta
 
 -- ---- the header
 
-read-header : (at : ℕ) (s : List ℕ) → 12 ≤ length s → read header at s ≡ good (take 4 s ∷ take 2 (drop 4 s) ∷ take 2 (drop 6 s) ∷ take 4 (drop 8 s) ∷ []) (drop 12 s)
-unfolding read
-read-header at s h =
+-- where there are 12 octets, each of its fields is complete
+pub header-complete : (s : List ℕ) → 12 ≤ length s → (ltb (length s) 4 ≡ false) × (ltb (length (drop 4 s)) 2 ≡ false) × (ltb (length (drop 6 s)) 2 ≡ false) × (ltb (length (drop 8 s)) 4 ≡ false)
+header-complete s h =
     let a : 4 ≤ length s = omega arith in
     let b : 2 ≤ length (drop 4 s) = rw length-drop (omega arith) in
     let c : 2 ≤ length (drop 6 s) = rw length-drop (omega arith) in
     let d : 4 ≤ length (drop 8 s) = rw length-drop (omega arith) in
-    rw (le-ltb _ _ a, le-ltb _ _ b, drop-drop 2 4 s, le-ltb _ _ c, drop-drop 2 6 s, le-ltb _ _ d, drop-drop 4 8 s)
+    (le-ltb _ _ a, le-ltb _ _ b, le-ltb _ _ c, le-ltb _ _ d)
+
+read-header : (at : ℕ) (s : List ℕ) → 12 ≤ length s → read header at s ≡ good (take 4 s ∷ take 2 (drop 4 s) ∷ take 2 (drop 6 s) ∷ take 4 (drop 8 s) ∷ []) (drop 12 s)
+unfolding read
+read-header at s h = let c = header-complete s h in rw (c .0, c .1, drop-drop 2 4 s, c .2, drop-drop 2 6 s, c .3, drop-drop 4 8 s)
 
 -- a record, by its header's numbers
 pub rec-header : (longest : ℕ) (st : St) (at : ℕ) (s : List ℕ) → 12 ≤ length s
