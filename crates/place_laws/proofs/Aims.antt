@@ -3,19 +3,19 @@ use mathlib.Core.Path.{_≡_, refl}
 use mathlib.Core.Bool.{Bool, true, false, cond}
 use mathlib.Core.Logic.{inl, inr}
 use mathlib.Core.List.{List, [], _∷_}
-use Prim.Native.Nat.{ℕ, zero, suc, _+_, _-_, _*_, _/_, _%_, _≤_}
+use Prim.Native.Nat.{ℕ, zero, suc, _-_, _/_, _%_, _≤_}
 use native.Mathlib.Omega.{arith}
 use lib.Dec.{eqb, leb}
 use lib.ListN.{length}
-use borrow.Author.Tests.{leb-true, eqb-true}
+use borrow.Author.Tests.{eqb-true}
 use Rattle.form_spec.specs.Octets.{be}
 use Rattle.form_spec.specs.Fmt.{Fmt, end, test, field}
 use Rattle.form_spec.specs.Words.{choose, num, skip, must, area, fail, checked, tested, inRange}
 use Rattle.form_spec.specs.Body.{Plan, just, free, many}
 use Rattle.form_spec.specs.Pass.{_⨾_, times, counted}
 use Rattle.form_spec.specs.Shape.{St, noTable, withPeers, plan, indexed}
+use Rattle.form_laws.proofs.Range.{bounds}
 use Rattle.page_spec.specs.Names.{peerIndex, family, attributeOctets, bgpLength, bgpType, bgpRest, marker}
-use Rattle.page_spec.specs.Tiles.{tiles}
 use Rattle.page_spec.specs.Bgp4mp.{addresses, session, state, stateChange, messageRest, message}
 use Rattle.page_spec.specs.Rib.{tiling, attributes, entryRest, prefix, ribHead, genericHead}
 use Rattle.page_spec.specs.TableDump.{tableDumpRest, tableDump}
@@ -151,15 +151,6 @@ unfolding stateChange state about judged thereFrom choose
 aims-change t e =
     aims-checked Over _ 2 t refl _ 8 _ (refl, refl, λ y. refl) (λ o. aims-checked Over _ 2 _ refl _ 8 _ (refl, refl, λ y. refl) (λ n. no-more _ refl))
 
--- the least of a range
-at-least : (lo v hi : ℕ) → inRange lo v hi ≡ true → lo ≤ v
-unfolding inRange
-at-least lo v hi e = go (leb lo v) refl e
-  where
-    go : (b : Bool) → leb lo v ≡ b → cond b (leb v hi) false ≡ true → lo ≤ v
-    go true z e = leb-true lo v z
-    go false z e = let x : _≡_ {A = ℕ} 0 1 = cc in absurd (omega arith)
-
 -- behind a BGP message's type octet, its length stands 3 octets back
 module _ (t : Trail) where
   abbrev typed : Trail
@@ -179,7 +170,7 @@ module _ (t : Trail) where
       aims-skip Over marker 16 t refl _
       (aims-num Over bgpLength 2 _ refl _ (λ n.
       aims-num Over bgpType 1 _ refl _ (λ k.
-      aims-test Over (inRange 19 n longest) 9 3 _ _ refl (three 10 refl) (λ z. aims-left n (at-least 19 n longest z)))))
+      aims-test Over (inRange 19 n longest) 9 3 _ _ refl (three 10 refl) (λ z. aims-left n (bounds 19 n longest z .0)))))
 
 -- ---- types 12 and 13
 

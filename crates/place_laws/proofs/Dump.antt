@@ -38,16 +38,11 @@ module _ (longest : ℕ) where
 
   -- a record that is not read where it stands is not read by itself, with its own place
   alone : (st : St) (at : ℕ) (d : List ℕ) (n p : ℕ) → readRec (layout longest) st at d ≡ bad n p → (q : ℕ) × (p ≡ at + q) × (readRec (layout longest) st 0 d ≡ bad n q)
-  alone st at d n p e = go (readRec (layout longest) st 0 d) refl
+  alone st at d n p e = go (readRec (layout longest) st 0 d) refl (sym e ∙ rw add-zero at (moved-record (layout longest) (inside longest) st at 0 d))
     where
-      go : (o : Out Rec) → readRec (layout longest) st 0 d ≡ o → (q : ℕ) × (p ≡ at + q) × (readRec (layout longest) st 0 d ≡ bad n q)
-      go o h =
-          let m : bad n p ≡ moved at o = sym e ∙ rw (h, add-zero) at (moved-record (layout longest) (inside longest) st at 0 d) in
-          from o h m
-        where
-          from : (o : Out Rec) → readRec (layout longest) st 0 d ≡ o → bad n p ≡ moved at o → (q : ℕ) × (p ≡ at + q) × (readRec (layout longest) st 0 d ≡ bad n q)
-          from (bad m q) h z = let a : n ≡ m = cc in let b : p ≡ at + q = cc in (q, b, rw a h)
-          from (good r q) h z = let x : _≡_ {A = ℕ} 0 1 = cc in absurd (omega arith)
+      go : (o : Out Rec) → readRec (layout longest) st 0 d ≡ o → bad n p ≡ moved at o → (q : ℕ) × (p ≡ at + q) × (readRec (layout longest) st 0 d ≡ bad n q)
+      go (bad m q) h z = let a : n ≡ m = cc in let b : p ≡ at + q = cc in (q, b, rw a h)
+      go (good r q) h z = let x : _≡_ {A = ℕ} 0 1 = cc in absurd (omega arith)
 
   until : (k : ℕ) (st : St) (at : ℕ) (d : List ℕ) → Octets d → length d ≤ k → ((walk (layout longest) k st at d) .fault ≡ 0 → ⊥) → Until st at d (walk (layout longest) k st at d)
   unfolding walk

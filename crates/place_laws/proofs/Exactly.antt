@@ -1,16 +1,15 @@
 -- A format's octets have one fault at most, at one place.
 use mathlib.Core.Path.{_≡_, refl, sym, ap, _∙_, subst}
-use mathlib.Core.Bool.{Bool, true, false}
-use mathlib.Core.Logic.{_⊎_, inl, inr, ⊎-elim}
+use mathlib.Core.Bool.{true}
+use mathlib.Core.Logic.{inl, inr}
 use mathlib.Core.List.{List, [], _∷_, _++_, append-assoc}
 use Prim.Native.Nat.{ℕ, zero, suc, _+_, _-_, _≤_, _<_}
 use native.Mathlib.Omega.{arith}
 use lib.ListN.{length, take, drop, length-append}
 use lib.Seq.{take-at, drop-at}
 use borrow.Author.Tests.{lt-ltb, le-ltb}
-use Rattle.form_spec.specs.Fmt.{Out, bad, Fmt, end, test, field, join}
-use Rattle.place_spec.specs.About.{thereFrom}
-use Rattle.place_spec.specs.Failed.{behindFields, FieldsPass, judged, Fails, nameOf, latestOf, Failed}
+use Rattle.form_spec.specs.Fmt.{bad, Fmt, end, test, field, join}
+use Rattle.place_spec.specs.Failed.{behindFields, FieldsPass, judged, Fails, Failed}
 use Rattle.place_laws.proofs.Finish.{finish}
 
 -- no test gives 0

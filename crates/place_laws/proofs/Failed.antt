@@ -1,16 +1,16 @@
 -- A format that places its faults at first octets of fields: whatever fault it finds, the octets are as that fault says.
-use mathlib.Core.Path.{_≡_, refl, sym, ap, _∙_}
+use mathlib.Core.Path.{_≡_, refl, _∙_}
 use mathlib.Core.Bool.{Bool, true, false}
 use mathlib.Core.Logic.{_⊎_, inl, inr, ⊎-elim}
 use mathlib.Core.List.{List, [], _∷_, _++_, append-assoc}
-use Prim.Native.Nat.{ℕ, zero, suc, _+_, _-_, _≤_, _<_}
+use Prim.Native.Nat.{ℕ, zero, suc, _+_, _-_, _≤_}
 use native.Mathlib.Omega.{arith}
 use native.Mathlib.Nat.{zero-add}
 use lib.ListN.{length, take, drop, length-append, take-append-drop}
 use lib.Seq.{length-take-le}
 use lib.Dec.{ltb}
 use borrow.Author.Tests.{ltb-true, ltb-false}
-use Rattle.form_spec.specs.Fmt.{Out, bad, refuseIf, Fmt, end, test, field, join}
+use Rattle.form_spec.specs.Fmt.{bad, refuseIf, Fmt, end, test, field, join}
 use Rattle.place_spec.specs.About.{about, thereFrom}
 use Rattle.place_spec.specs.Failed.{behindFields, FieldsPass, judged, Fails, nameOf, latestOf, Failed}
 use Rattle.place_laws.proofs.Finish.{finish}

@@ -1,7 +1,7 @@
 -- Whatever fault is found where a record should start, its octets are as the fault and its place say.
 use mathlib.Core.Path.{_≡_, refl, sym, ap, _∙_}
 use mathlib.Core.Bool.{Bool, true, false}
-use mathlib.Core.Logic.{_↔_, _⊎_, inl, inr, ⊎-elim}
+use mathlib.Core.Logic.{_↔_, inl, inr, ⊎-elim}
 use mathlib.Core.List.{List, [], _∷_, _++_}
 use Prim.Native.Nat.{ℕ, zero, suc, _+_, _-_, _≤_, _<_}
 use native.Mathlib.Omega.{arith}
@@ -13,7 +13,7 @@ use Rattle.form_spec.specs.Octets.{Octets}
 use Rattle.form_spec.specs.Fmt.{Out, bad, good, bind, refuseIf, Fmt, end, test, field, read, join}
 use Rattle.form_spec.specs.Body.{Plan, just, free, many, Body, loose, readBody}
 use Rattle.form_spec.specs.Pass.{_⨾_, counted}
-use Rattle.form_spec.specs.Shape.{St, plan}
+use Rattle.form_spec.specs.Shape.{St}
 use Rattle.form_spec.specs.Record.{Rec, readRec}
 use Rattle.form_laws.proofs.Octets.{octets-take, octets-drop}
 use Rattle.form_laws.proofs.Many.{flatBody, body-many}

@@ -1,5 +1,5 @@
 -- At which field a fault is placed (document 02, "Faults placed to the octet").
-use mathlib.Core.Bool.{Bool, true, false, _&&_, _||_}
+use mathlib.Core.Bool.{Bool, _&&_, _||_}
 use Prim.Native.Nat.{ℕ}
 use lib.Dec.{eqb}
 use Rattle.form_spec.specs.Words.{_$_, choose}
