@@ -6,6 +6,7 @@ use super::{
     once, refuse_standard_twice, take_all, value, CutOrder, Listed, Refused, Request, Taker, Whose,
 };
 use crate::as_number;
+use crate::muting::address;
 use crate::input::Source;
 use crate::output::Target;
 use crate::words::Words;
@@ -66,10 +67,6 @@ impl Taker for CutWords {
     }
 }
 
-/// An IP address as people write it.
-pub fn address(text: &str) -> Result<IpAddr, String> {
-    text.parse().map_err(|_| "is no IP address; write one as 192.0.2.1 or 2001:db8::1".to_string())
-}
 
 impl CutWords {
     fn switch(&mut self, option: &str, words: &mut Words) -> Result<(), Refused> {
