@@ -1,7 +1,7 @@
 //! Checks, lists, counts and cuts MRT dumps. A thin shell around the library: it reads files, calls, and
 //! tells people what came of it.
 
-#![forbid(unsafe_code)]
+#![deny(unsafe_code)]
 
 mod advice;
 mod archive;
@@ -9,10 +9,15 @@ mod arguments;
 mod as_number;
 mod bgp_length;
 mod cut;
+mod digest;
+mod escaped;
 mod excerpt;
+mod filter;
 mod header;
 mod help;
 mod input;
+mod lists;
+mod memory;
 mod moment;
 mod mutes;
 mod near;
@@ -25,9 +30,12 @@ mod session_table;
 mod show;
 mod size;
 mod stop;
+#[allow(unsafe_code)]
+mod system;
 mod tally;
 mod view_name;
 mod words;
+mod wrap;
 
 use arguments::Request;
 use std::env;
