@@ -1,6 +1,7 @@
 //! The built program, run as a person runs it.
 
 mod archives;
+mod completion;
 mod counts;
 mod cuts;
 mod damage;
