@@ -7,6 +7,7 @@ mod damage;
 mod dumps;
 mod faults;
 mod files;
+mod manual;
 mod names;
 mod reports;
 mod run;
