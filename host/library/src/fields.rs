@@ -2,6 +2,8 @@
 //!
 //! Parts lie in the caller's octets. Prefix lengths are in bits.
 
+use crate::items::address;
+use std::net::IpAddr;
 use std::str::{self, Utf8Error};
 
 /// When a record was made.
@@ -38,6 +40,13 @@ pub struct TableDump<'a> {
     pub peer_address: &'a [u8],
     pub peer_as: u16,
     pub attributes: &'a [u8],
+}
+
+impl TableDump<'_> {
+    /// The peer's address: every record that was read has one.
+    pub fn peer(&self) -> Option<IpAddr> {
+        address(self.peer_address)
+    }
 }
 
 /// Type 13, Subtype 1.
@@ -116,6 +125,13 @@ pub struct Session<'a> {
     pub family: u16,
     pub peer_address: &'a [u8],
     pub local_address: &'a [u8],
+}
+
+impl Session<'_> {
+    /// The peer's address: every session that was read has one.
+    pub fn peer(&self) -> Option<IpAddr> {
+        address(self.peer_address)
+    }
 }
 
 /// Type 16, and with microseconds 17, Subtypes 0 and 5.

@@ -1,10 +1,12 @@
 //! The command that cuts.
 
 use crate::advice;
-use crate::arguments::CutOrder;
+use crate::arguments::{CutOrder, Whose};
+use crate::input::Recording;
 use crate::moment;
 use crate::mutes;
 use crate::outcome::Outcome;
+use crate::output::Target;
 use crate::progress::Progress;
 use crate::stop::{tell, Stop};
 use crate::tally::Tally;
@@ -13,26 +15,28 @@ use std::hint::black_box;
 use std::thread;
 
 pub fn cut(order: &CutOrder) -> Result<(), Stop> {
-    order.notes.iter().for_each(|note| tell(note));
-    refuse_window(order.window)?;
+    order.doubts.iter().for_each(|doubt| tell(&format!("WARNING: {doubt}")));
+    refuse_window(order.period.window())?;
     refuse_output(order)?;
     let mutes = all_mutes(order)?;
     let mut progress = Progress::new(order.reading.progress);
-    let dump = order.reading.source.read(&mut progress)?;
+    let recording = order.reading.read(&mut progress)?;
+    let dump = &recording.octets[..];
     progress.stage("cutting", None);
     progress.at(dump.len() as u64);
-    let (before, clip) = cut_and_count(order, &dump, &mutes)?;
-    let after = write_and_count(order, &clip, &mut progress)?;
+    let (before, clip) = cut_and_count(order, &recording, &mutes)?;
+    let target = order.target.as_ref().expect("not yet");
+    let after = write_and_count(target, &clip, &mut progress)?;
     progress.clear();
     let outcome = Outcome {
-        clip: &order.target.name().display().to_string(),
-        window: order.window,
+        clip: &target.name().display().to_string(),
+        window: order.period.window(),
         mutes: &mutes,
         before,
         after,
         octets: (dump.len() as u64, clip.len() as u64),
     };
-    if !order.quiet {
+    if !order.is_quiet {
         tell(&outcome.report());
     }
     outcome.warnings().iter().for_each(|warning| tell(&format!("WARNING: {warning}")));
@@ -48,18 +52,21 @@ fn refuse_window(window: Window) -> Result<(), Stop> {
 }
 
 fn refuse_output(order: &CutOrder) -> Result<(), Stop> {
-    let mut inputs = vec![order.reading.source.metadata()?];
-    for file in &order.mute_files {
-        inputs.push(file.metadata().map_err(|error| Stop::reading(file, &error))?);
+    let mut inputs = order.reading.metadata()?;
+    if let Whose::Muted { numbers, .. } = &order.whose {
+        for file in &numbers.files {
+            inputs.push(file.metadata()?);
+        }
     }
-    order.target.refuse_early(&inputs)
+    order.target.as_ref().map_or(Ok(()), |target| target.refuse_early(&inputs))
 }
 
 /// Each number once.
 fn all_mutes(order: &CutOrder) -> Result<Vec<u32>, Stop> {
-    let mut mutes = order.mutes.clone();
-    for file in &order.mute_files {
-        mutes.extend(mutes::read_file(file)?);
+    let Whose::Muted { numbers, .. } = &order.whose else { return Ok(Vec::new()) };
+    let mut mutes = numbers.items.clone();
+    for file in &numbers.files {
+        mutes.extend(mutes::read_file(file.name())?);
     }
     mutes.sort_unstable();
     mutes.dedup();
@@ -77,26 +84,30 @@ fn refuse_size(size: usize) -> Result<(), Stop> {
     })
 }
 
-fn cut_and_count(order: &CutOrder, dump: &[u8], mutes: &[u32]) -> Result<(Tally, Vec<u8>), Stop> {
+fn cut_and_count(
+    order: &CutOrder,
+    recording: &Recording,
+    mutes: &[u32],
+) -> Result<(Tally, Vec<u8>), Stop> {
+    let dump = &recording.octets[..];
     refuse_size(dump.len())?;
     let (before, clip) = thread::scope(|scope| {
         let counting = scope.spawn(|| Tally::of(dump));
-        let clip = dagsumilat::cut(dump, order.window, mutes);
+        let clip = dagsumilat::cut(dump, order.period.window(), mutes);
         (counting.join().expect("counting does not panic"), clip)
     });
     match clip {
         Ok(clip) => Ok((before, clip)),
         Err(refusal) => {
-            let name = order.reading.source.name().display().to_string();
-            Err(Stop::Refused(advice::dump_refused(&name, dump, refusal.fault)))
+            Err(Stop::Refused(advice::dump_refused(&recording.name(), dump, refusal.fault)))
         }
     }
 }
 
-fn write_and_count(order: &CutOrder, clip: &[u8], progress: &mut Progress) -> Result<Tally, Stop> {
+fn write_and_count(target: &Target, clip: &[u8], progress: &mut Progress) -> Result<Tally, Stop> {
     thread::scope(|scope| {
         let counting = scope.spawn(|| Tally::of(clip));
-        let written = order.target.write(clip, progress);
+        let written = target.write(clip, progress);
         let after = counting.join().expect("counting does not panic");
         written.map(|()| after)
     })

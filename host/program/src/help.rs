@@ -116,17 +116,17 @@ Examples:
       -o public.mrt
 ";
 
+/// The words of a text that are options.
+pub fn options(text: &str) -> impl Iterator<Item = &str> {
+    let ends = |c: char| c.is_whitespace() || ",.;:|()[]`".contains(c);
+    text.split(ends).filter(|word| word.starts_with('-') && word.len() > 1)
+}
+
 #[cfg(test)]
 mod tests {
     use super::*;
 
     const MANUAL: &str = include_str!("../dagsumilat.1");
-
-    /// The words of a text that are options.
-    fn options(text: &str) -> impl Iterator<Item = &str> {
-        let ends = |c: char| c.is_whitespace() || ",.;()[]`".contains(c);
-        text.split(ends).filter(|word| word.starts_with('-') && word.len() > 1)
-    }
 
     #[test]
     fn the_manual_has_every_option_of_the_help() {

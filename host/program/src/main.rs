@@ -15,12 +15,15 @@ mod help;
 mod input;
 mod moment;
 mod mutes;
+mod near;
 mod outcome;
 mod output;
+mod period;
 mod progress;
 mod session_report;
 mod session_table;
 mod show;
+mod size;
 mod stop;
 mod tally;
 mod view_name;
@@ -49,7 +52,7 @@ fn run() -> Result<(), Stop> {
             let printed = io::stdout().lock().write_all(text.as_bytes());
             printed.map_err(|error| Stop::printing(&error))
         }
-        Request::List(reading) => show::list(&reading),
+        Request::List(order) => show::list(&order),
         Request::Check(reading) => show::check(&reading),
         Request::Peers(reading) => show::peers(&reading),
         Request::Report(order) => session_report::report(&order),

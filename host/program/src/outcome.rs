@@ -58,14 +58,14 @@ impl Outcome<'_> {
 
     /// Muted numbers that hit nobody.
     fn nowhere(&self) -> impl Iterator<Item = u32> + '_ {
-        self.mutes.iter().copied().filter(|number| !self.before.by_as.contains_key(number))
+        self.mutes.iter().copied().filter(|number| !self.before.by_as().contains_key(number))
     }
 
     fn left(&self) -> String {
-        let left = self.after.sorted();
+        let left: Vec<_> = self.after.by_as().into_iter().collect();
         let mut text = format!("  peer AS numbers still in the clip: {}\n", left.len());
         for (number, count) in left.iter().take(SHOWN) {
-            let Count { peers, entries, records } = count;
+            let Count { peers, entries, records, .. } = count.count;
             let _ = writeln!(
                 text,
                 "    AS{number} (peers {peers}, entries {entries}, records {records})"
@@ -95,8 +95,8 @@ impl Outcome<'_> {
 
     /// A slip in a date leaves a clip that looks well.
     fn emptied(&self) -> Option<String> {
-        let (first, last) = self.before.span.filter(|_| self.after.span.is_none())?;
-        let (first, last) = (moment::shown(first), moment::shown(last));
+        let span = self.before.span.filter(|_| self.after.span.is_none())?;
+        let (first, last) = (moment::shown(span.first), moment::shown(span.last));
         Some(format!(
             "no record but peer tables is left; the others of the dump are from {first} to {last}"
         ))
@@ -106,7 +106,7 @@ impl Outcome<'_> {
     /// has 16 bits anyway is never left.
     fn shortened(&self, number: u32) -> Option<String> {
         let short = number & 0xffff;
-        self.after.by_as.contains_key(&short).then(|| {
+        self.after.by_as().contains_key(&short).then(|| {
             format!(
                 "AS{short} is still in the clip, and is what is left of muted AS{number} in \
                  16 bits: some producers write that; see whose records they are"
@@ -115,7 +115,7 @@ impl Outcome<'_> {
     }
 
     fn stand_ins(&self) -> Vec<String> {
-        let left = |number| self.after.by_as.contains_key(&number);
+        let left = |number| self.after.by_as().contains_key(&number);
         let mut warnings = Vec::new();
         if left(0) {
             warnings.push(

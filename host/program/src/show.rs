@@ -1,7 +1,8 @@
 //! The commands that show something of a dump: list, check and peers.
 
 use crate::advice;
-use crate::arguments::Reading;
+use crate::arguments::ListOrder;
+use crate::input::{Reading, Recording};
 use crate::progress::Progress;
 use crate::stop::Stop;
 use crate::tally::{Count, Tally};
@@ -10,27 +11,27 @@ use std::io::{self, BufWriter, Write};
 
 const BUFFER: usize = 1 << 16;
 
-fn read(reading: &Reading) -> Result<Vec<u8>, Stop> {
-    reading.source.read(&mut Progress::new(reading.progress))
+fn read(reading: &Reading) -> Result<Recording, Stop> {
+    reading.read(&mut Progress::new(reading.progress))
 }
 
 /// Ends a command: a fault, where there is one, is told last.
-fn end(reading: &Reading, dump: &[u8], refusal: Option<Refusal>) -> Result<(), Stop> {
+fn end(recording: &Recording, refusal: Option<Refusal>) -> Result<(), Stop> {
     match refusal {
         None => Ok(()),
         Some(Refusal { fault, .. }) => {
-            let name = reading.source.name().display().to_string();
-            Err(Stop::Refused(advice::dump_refused(&name, dump, fault)))
+            Err(Stop::Refused(advice::dump_refused(&recording.name(), &recording.octets, fault)))
         }
     }
 }
 
-pub fn list(reading: &Reading) -> Result<(), Stop> {
-    let dump = read(reading)?;
+pub fn list(order: &ListOrder) -> Result<(), Stop> {
+    let recording = read(&order.reading)?;
     let mut out = BufWriter::with_capacity(BUFFER, io::stdout().lock());
-    let listed = write_list(&dump, &mut out).and_then(|listed| out.flush().map(|()| listed));
+    let listed =
+        write_list(&recording.octets, &mut out).and_then(|listed| out.flush().map(|()| listed));
     let refusal = listed.map_err(|error| Stop::printing(&error))?;
-    end(reading, &dump, refusal)
+    end(&recording, refusal)
 }
 
 fn write_list(dump: &[u8], out: &mut impl Write) -> io::Result<Option<Refusal>> {
@@ -54,28 +55,28 @@ fn write_list(dump: &[u8], out: &mut impl Write) -> io::Result<Option<Refusal>> 
 }
 
 pub fn check(reading: &Reading) -> Result<(), Stop> {
-    let dump = read(reading)?;
-    let check = dagsumilat::check(&dump);
-    end(reading, &dump, check.refusal)?;
-    let (name, records, octets) = (reading.source.name().display(), check.records, dump.len());
+    let recording = read(reading)?;
+    let check = dagsumilat::check(&recording.octets);
+    end(&recording, check.refusal)?;
+    let (name, records, octets) = (recording.name(), check.records, recording.octets.len());
     let mut out = io::stdout().lock();
     writeln!(out, "{name}: good, {records} records, {octets} octets")
         .map_err(|error| Stop::printing(&error))
 }
 
 pub fn peers(reading: &Reading) -> Result<(), Stop> {
-    let dump = read(reading)?;
-    let tally = Tally::of(&dump);
+    let recording = read(reading)?;
+    let tally = Tally::of(&recording.octets);
     let mut out = BufWriter::with_capacity(BUFFER, io::stdout().lock());
     let written = write_peers(&tally, &mut out).and_then(|()| out.flush());
     written.map_err(|error| Stop::printing(&error))?;
-    end(reading, &dump, tally.refusal)
+    end(&recording, tally.refusal)
 }
 
 fn write_peers(tally: &Tally, out: &mut impl Write) -> io::Result<()> {
     writeln!(out, "{:>10} {:>10} {:>14} {:>14}", "AS", "peers", "entries", "records")?;
-    for (number, count) in tally.sorted() {
-        let Count { peers, entries, records } = count;
+    for (number, of) in tally.by_as() {
+        let Count { peers, entries, records, .. } = of.count;
         writeln!(out, "{number:>10} {peers:>10} {entries:>14} {records:>14}")?;
     }
     Ok(())

@@ -111,6 +111,11 @@ fn assert_report(words: &str, before: &Seen, after: &Seen) {
     assert_eq!(left, expected[..expected.len().min(20)], "{words}");
 }
 
+/// Small whole numbers are refused.
+fn seconds(micros: u64) -> String {
+    format!("{}.{:06}", micros / 1_000_000, micros % 1_000_000)
+}
+
 #[test]
 fn the_report_is_that_of_the_second_program() {
     let mut rng = Rng::seeded(64_501);
@@ -120,7 +125,7 @@ fn the_report_is_that_of_the_second_program() {
         let ask = ask(&Known::of(&Dump::read(&octets)), &mut rng);
         let (from, to) = (ask.from.min(ask.to), ask.from.max(ask.to));
         let clip = second::cut::cut(&octets, from, to, &ask.list, octets.len()).octets;
-        let mut words = vec![format!("--from={from}"), format!("--to={to}")];
+        let mut words = vec![format!("--from={}", seconds(from)), format!("--to={}", seconds(to))];
         words.extend(ask.list.iter().map(|number| format!("--mute={number}")));
         words.extend(["cut", "-", "-o", "-"].map(String::from));
         words.rotate_right(4);
