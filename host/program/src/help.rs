@@ -148,7 +148,6 @@ pub fn options(text: &str) -> impl Iterator<Item = &str> {
 #[cfg(test)]
 mod tests {
     use super::*;
-    use dagsumilat::Fault;
 
     const MANUAL: &str = include_str!("../dagsumilat.1");
 
@@ -160,15 +159,6 @@ mod tests {
             for option in options(text) {
                 assert!(manual.contains(option), "{option} is not in the manual");
             }
-        }
-    }
-
-    /// But that of no room: the program always has it.
-    #[test]
-    fn the_manual_has_every_fault() {
-        let told = Fault::ALL.into_iter().filter(|fault| *fault != Fault::Room);
-        for number in told.map(Fault::number) {
-            assert!(MANUAL.contains(&format!("\n.B {number}\n")), "{number} is not in the manual");
         }
     }
 

@@ -8,6 +8,7 @@ mod damage;
 mod dumps;
 mod faults;
 mod files;
+mod manual;
 mod names;
 mod reports;
 mod run;
