@@ -113,7 +113,13 @@ mod tests {
             ("is", Json::Bool(true)),
             ("numbers", Json::list([0, u64::MAX], Json::Number)),
             ("empty", Json::List(Vec::new())),
-            ("things", Json::List(vec![Json::Object(vec![("a", Json::Number(1))]), Json::Object(Vec::new())])),
+            (
+                "things",
+                Json::List(vec![
+                    Json::Object(vec![("a", Json::Number(1))]),
+                    Json::Object(Vec::new()),
+                ]),
+            ),
         ]);
         let expected = "{\n  \"none\": null,\n  \"is\": true,\n  \"numbers\": [0, \
                         18446744073709551615],\n  \"empty\": [],\n  \"things\": [\n    {\n      \

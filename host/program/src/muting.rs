@@ -77,7 +77,9 @@ fn all<T: Copy + Ord>(
 /// The files of the lists, which are inputs too.
 pub fn files(whose: &Whose) -> Vec<&Source> {
     match whose {
-        Whose::Muted { numbers, addresses } => numbers.files.iter().chain(&addresses.files).collect(),
+        Whose::Muted { numbers, addresses } => {
+            numbers.files.iter().chain(&addresses.files).collect()
+        }
         Whose::AllBut(agreed) => agreed.files.iter().collect(),
     }
 }
@@ -217,7 +219,10 @@ mod tests {
         let of = Of { addresses: (1..=9).map(ip).collect(), ..Of::default() };
         let wanted = Wanted::Muted { numbers: Vec::new(), addresses: vec![ip(1)] };
         let words = wanted.resolve(&[(5, of)].into(), false).unwrap_err();
-        assert!(words.contains("192.0.2.2, 192.0.2.3, 192.0.2.4, 192.0.2.5, 192.0.2.6 and 3 more"), "{words}");
+        assert!(
+            words.contains("192.0.2.2, 192.0.2.3, 192.0.2.4, 192.0.2.5, 192.0.2.6 and 3 more"),
+            "{words}"
+        );
     }
 
     #[test]

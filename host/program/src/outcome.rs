@@ -105,10 +105,9 @@ impl Outcome<'_> {
         match self.after.empty_ribs {
             0 => String::new(),
             _ if self.muting.numbers.is_empty() => String::new(),
-            count => format!(
-                "  RIB records that came with no entries, and stay: {}\n",
-                grouped(count)
-            ),
+            count => {
+                format!("  RIB records that came with no entries, and stay: {}\n", grouped(count))
+            }
         }
     }
 
@@ -116,11 +115,13 @@ impl Outcome<'_> {
     fn lines(&self, lines: impl Iterator<Item = String>) -> String {
         let lines: Vec<String> = lines.collect();
         let most = if self.is_brief { BRIEF } else { lines.len() };
-        let mut text: String = lines.iter().take(most).map(|line| format!("    {line}\n")).collect();
+        let mut text: String =
+            lines.iter().take(most).map(|line| format!("    {line}\n")).collect();
         match lines.len().saturating_sub(most) {
             0 => {}
             more => {
-                let _ = writeln!(text, "    and {} more (without --brief all)", grouped(more as u64));
+                let _ =
+                    writeln!(text, "    and {} more (without --brief all)", grouped(more as u64));
             }
         }
         text

@@ -153,7 +153,8 @@ impl Judged<'_> {
         }
         left.sort_unstable();
         let records: u64 = left.iter().map(|(_, records)| **records).sum();
-        let named = |(number, records): &(&u32, &u64)| format!("AS{number} of {}", grouped(**records));
+        let named =
+            |(number, records): &(&u32, &u64)| format!("AS{number} of {}", grouped(**records));
         let listed = self.listed(&left.iter().map(named).collect::<Vec<_>>());
         let listed = listed.unwrap_or_else(|| {
             format!("{} muted numbers (--verbose lists them)", grouped(left.len() as u64))
@@ -184,7 +185,9 @@ impl Judged<'_> {
         let muted = self.muted_addresses();
         let (mut found, mut sum) = (BTreeSet::new(), Count::default());
         for (peer, count) in &self.after.by_peer {
-            if let Some(number) = muted.get(&peer.address).filter(|_| STAND_INS.contains(&peer.as_number)) {
+            if let Some(number) =
+                muted.get(&peer.address).filter(|_| STAND_INS.contains(&peer.as_number))
+            {
                 found.insert((peer.address, *number, peer.as_number));
                 sum.add(count);
             }
@@ -196,9 +199,8 @@ impl Judged<'_> {
             format!("{address} of muted AS{muted} under AS{left}")
         };
         let listed = self.listed(&found.iter().map(named).collect::<Vec<_>>());
-        let listed = listed.unwrap_or_else(|| {
-            format!("{} (--verbose lists them)", grouped(found.len() as u64))
-        });
+        let listed = listed
+            .unwrap_or_else(|| format!("{} (--verbose lists them)", grouped(found.len() as u64)));
         let Count { peers, entries, records, .. } = sum;
         Some(serious(format!(
             "addresses of muted peers still stand in the clip under AS0 or AS{AS_TRANS}: {listed} \

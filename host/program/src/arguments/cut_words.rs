@@ -6,8 +6,8 @@ use super::{
     once, refuse_standard_twice, take_all, value, CutOrder, Listed, Refused, Request, Taker, Whose,
 };
 use crate::as_number;
-use crate::muting::address;
 use crate::input::Source;
+use crate::muting::address;
 use crate::output::Target;
 use crate::words::Words;
 use std::ffi::OsString;
@@ -66,7 +66,6 @@ impl Taker for CutWords {
         Ok(())
     }
 }
-
 
 impl CutWords {
     fn switch(&mut self, option: &str, words: &mut Words) -> Result<(), Refused> {

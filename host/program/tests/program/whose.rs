@@ -17,7 +17,8 @@ fn without(octets: &[u8], mutes: &[u32]) -> Vec<u8> {
 
 #[test]
 fn only_those_who_agreed_are_left() {
-    let octets = [table(1, &[10, 20, 30]), rib(2, &[0, 1, 2]), change(3, 40), message(3, 10, 19)].concat();
+    let octets =
+        [table(1, &[10, 20, 30]), rib(2, &[0, 1, 2]), change(3, 40), message(3, 10, 19)].concat();
     let run = cut(&octets, &["--only=10", "--only", "AS50"]).ended(0);
     assert_eq!(run.out, without(&octets, &[20, 30, 40]));
     run.told("AS numbers that agreed: 2, in the dump: 1; every other peer AS of the dump is muted: 3")
@@ -67,9 +68,10 @@ fn only_is_a_mute_of_all_others_for_any_dump() {
         let first = |line: &str| line.split_whitespace().next().unwrap().parse::<u32>().unwrap();
         let all = run.out_text().lines().skip(1).map(first);
         let others: Vec<u32> = all.filter(|number| !agreed.contains(number)).collect();
-        let mut words: Vec<String> = agreed.iter().map(|number| format!("--only={number}")).collect();
+        let mut words: Vec<String> =
+            agreed.iter().map(|number| format!("--only={number}")).collect();
         if words.is_empty() {
-            words.push("--only=4294967295".to_string());
+            words.push("--only-file=/dev/null".to_string());
         }
         let words: Vec<&str> = words.iter().map(String::as_str).collect();
         assert_eq!(cut(&octets, &words).ended(0).out, without(&octets, &others));
@@ -93,7 +95,8 @@ fn an_address_stands_for_the_numbers_behind_it() {
     assert_eq!(run.out, without(&octets, &[10, 30]));
     let run = cut(&octets, &["--mute-address=2001:db8::9"]).ended(0);
     assert_eq!(run.out, octets);
-    run.told("2001:db8::9: nobody's").told("warning: 1 of 1 addresses are no peer's in the dump: 2001:db8::9");
+    run.told("2001:db8::9: nobody's")
+        .told("warning: 1 of 1 addresses are no peer's in the dump: 2001:db8::9");
 }
 
 #[test]
@@ -126,7 +129,9 @@ fn addresses_from_a_file() {
     let run = cut(&octets, &["--mute-address-file", &list]).ended(0);
     assert_eq!(run.out, without(&octets, &[10, 30]));
     let bad = folder.file("bad", b"192.0.2.1\n192.0.2\n");
-    cut(&octets, &["--mute-address-file", &bad]).ended(2).told("bad: line 2: '192.0.2' is no IP address");
+    cut(&octets, &["--mute-address-file", &bad])
+        .ended(2)
+        .told("bad: line 2: '192.0.2' is no IP address");
 }
 
 /// The order of the lists on standard input and of the dump in a file.

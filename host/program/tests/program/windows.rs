@@ -92,7 +92,8 @@ fn an_order_of_nothing_is_doubted() {
 #[test]
 fn around_a_moment() {
     let octets = changes(&[6, 7, 8, 9, 10, 11, 12, 13, 14]);
-    let around = |seconds: &str| cut(&octets, &["--around=10.0", "--seconds", seconds]).ended(0).out;
+    let around =
+        |seconds: &str| cut(&octets, &["--around=10.0", "--seconds", seconds]).ended(0).out;
     assert_eq!(around("3"), changes(&[7, 8, 9, 10, 11, 12]));
     assert_eq!(around("2.000001"), changes(&[8, 9, 10, 11, 12]));
     assert_eq!(around("0.5"), changes(&[10]));
@@ -117,7 +118,10 @@ fn several_files_are_one_recording() {
     assert_eq!(turned.out, [&other[..], &one].concat());
     // A RIB record's table may be in the file before.
     let rib = folder.file("rib", &crate::dumps::rib(8, &[0]));
-    assert_eq!(crate::run::run(&["cut", &files[0], &rib, "-o", "-", "--from=0"]).ended(0).out.len(), one.len() + 27);
+    assert_eq!(
+        crate::run::run(&["cut", &files[0], &rib, "-o", "-", "--from=0"]).ended(0).out.len(),
+        one.len() + 27
+    );
     crate::run::run(&["cut", &rib, &files[0], "-o", "-", "--from=0"]).ended(1).told("fault 12");
 }
 
