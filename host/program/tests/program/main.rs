@@ -7,6 +7,8 @@ mod damage;
 mod dumps;
 mod faults;
 mod files;
+mod lists;
+mod memory;
 mod names;
 mod reports;
 mod run;
