@@ -20,16 +20,9 @@ use std::env;
 /// answer is met.
 const DUMPS: u64 = 120_000;
 
-/// In an emulator, where everything takes longer.
-const DUMPS_EMULATED: u64 = 12_000;
-
-/// What cargo is told to run programs of another machine with.
-const RUNNER: &str = "CARGO_TARGET_X86_64_UNKNOWN_LINUX_GNU_RUNNER";
-
 fn dumps() -> u64 {
     match env::var("COMPARE_DUMPS") {
         Ok(word) => word.parse().expect("COMPARE_DUMPS is not a number"),
-        Err(_) if env::var_os(RUNNER).is_some() => DUMPS_EMULATED,
         Err(_) => DUMPS,
     }
 }

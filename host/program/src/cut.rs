@@ -1,46 +1,35 @@
 //! The command that cuts.
 
 use crate::advice;
-use crate::arguments::{CutOrder, Whose};
+use crate::arguments::CutOrder;
+use crate::evidence::Evidence;
 use crate::input::Recording;
 use crate::moment;
-use crate::mutes;
+use crate::muting::{self, Muting, Wanted};
 use crate::outcome::Outcome;
-use crate::output::Target;
+use crate::output::{Draft, Target};
 use crate::progress::Progress;
-use crate::stop::{tell, Stop};
-use crate::tally::Tally;
-use dagsumilat::Window;
+use crate::stop::{self, tell, Stop};
+use crate::tally::{Of, Tally};
+use crate::warnings::{Judged, Warning};
+use dagsumilat::{Fault, Window};
+use std::collections::BTreeMap;
 use std::hint::black_box;
 use std::thread;
 
 pub fn cut(order: &CutOrder) -> Result<(), Stop> {
-    order.doubts.iter().for_each(|doubt| tell(&format!("WARNING: {doubt}")));
     refuse_window(order.period.window())?;
-    refuse_output(order)?;
-    let mutes = all_mutes(order)?;
+    refuse_outputs(order)?;
+    let (wanted, warnings) = muting::read(&order.whose)?;
     let mut progress = Progress::new(order.reading.progress);
     let recording = order.reading.read(&mut progress)?;
-    let dump = &recording.octets[..];
     progress.stage("cutting", None);
-    progress.at(dump.len() as u64);
-    let (before, clip) = cut_and_count(order, &recording, &mutes)?;
-    let target = order.target.as_ref().expect("not yet");
-    let after = write_and_count(target, &clip, &mut progress)?;
+    progress.at(recording.octets.len() as u64);
+    let done = Cut::make(order, &wanted, &recording)?;
+    let (draft, after) = draft_and_count(order, &done.clip, &mut progress)?;
     progress.clear();
-    let outcome = Outcome {
-        clip: &target.name().display().to_string(),
-        window: order.period.window(),
-        mutes: &mutes,
-        before,
-        after,
-        octets: (dump.len() as u64, clip.len() as u64),
-    };
-    if !order.is_quiet {
-        tell(&outcome.report());
-    }
-    outcome.warnings().iter().for_each(|warning| tell(&format!("WARNING: {warning}")));
-    Ok(())
+    let counted = Counted { done: &done, peers: after.by_as(), after };
+    finish(order, &recording, &counted, warnings, draft)
 }
 
 /// Asks the library, with no dump yet: no file need be read for an order that cannot be met.
@@ -51,26 +40,59 @@ fn refuse_window(window: Window) -> Result<(), Stop> {
     })
 }
 
-fn refuse_output(order: &CutOrder) -> Result<(), Stop> {
+fn refuse_outputs(order: &CutOrder) -> Result<(), Stop> {
     let mut inputs = order.reading.metadata()?;
-    if let Whose::Muted { numbers, .. } = &order.whose {
-        for file in &numbers.files {
-            inputs.push(file.metadata()?);
-        }
+    for file in muting::files(&order.whose) {
+        inputs.push(file.metadata()?);
     }
-    order.target.as_ref().map_or(Ok(()), |target| target.refuse_early(&inputs))
+    for target in order.target.iter().chain(&order.report) {
+        target.refuse_early(&inputs)?;
+    }
+    Ok(())
 }
 
-/// Each number once.
-fn all_mutes(order: &CutOrder) -> Result<Vec<u32>, Stop> {
-    let Whose::Muted { numbers, .. } = &order.whose else { return Ok(Vec::new()) };
-    let mut mutes = numbers.items.clone();
-    for file in &numbers.files {
-        mutes.extend(mutes::read_file(file.name())?);
+/// A cut in memory, with what stood in the dump.
+struct Cut {
+    muting: Muting,
+    before: Tally,
+    peers: BTreeMap<u32, Of>,
+    clip: Vec<u8>,
+}
+
+impl Cut {
+    fn make(order: &CutOrder, wanted: &Wanted, recording: &Recording) -> Result<Cut, Stop> {
+        refuse_size(recording.octets.len())?;
+        match wanted.at_once() {
+            Some(muting) => Cut::beside(order, muting, recording),
+            None => Cut::behind(order, wanted, recording),
+        }
     }
-    mutes.sort_unstable();
-    mutes.dedup();
-    Ok(mutes)
+
+    /// Counts while the library cuts.
+    fn beside(order: &CutOrder, muting: Muting, recording: &Recording) -> Result<Cut, Stop> {
+        let dump = &recording.octets[..];
+        let (before, clip) = thread::scope(|scope| {
+            let counting = scope.spawn(|| Tally::of(dump));
+            let clip = dagsumilat::cut(dump, order.period.window(), &muting.numbers);
+            (counting.join().expect("counting does not panic"), clip)
+        });
+        let clip = clip.map_err(|refusal| refused(recording, refusal.fault))?;
+        Ok(Cut { muting, peers: before.by_as(), before, clip })
+    }
+
+    /// Counts first: the peers of the dump decide who goes.
+    fn behind(order: &CutOrder, wanted: &Wanted, recording: &Recording) -> Result<Cut, Stop> {
+        let dump = &recording.octets[..];
+        let before = Tally::of(dump);
+        if let Some(refusal) = before.refusal {
+            return Err(refused(recording, refusal.fault));
+        }
+        let peers = before.by_as();
+        let muting = wanted.resolve(&peers, order.is_forced).map_err(Stop::Refused)?;
+        let clip = dagsumilat::cut(dump, order.period.window(), &muting.numbers);
+        let clip = clip.map_err(|refusal| refused(recording, refusal.fault))?;
+        Ok(Cut { muting, peers, before, clip })
+    }
 }
 
 /// Where memory is short, the library's own buffer would end the program without words.
@@ -84,31 +106,130 @@ fn refuse_size(size: usize) -> Result<(), Stop> {
     })
 }
 
-fn cut_and_count(
-    order: &CutOrder,
-    recording: &Recording,
-    mutes: &[u32],
-) -> Result<(Tally, Vec<u8>), Stop> {
-    let dump = &recording.octets[..];
-    refuse_size(dump.len())?;
-    let (before, clip) = thread::scope(|scope| {
-        let counting = scope.spawn(|| Tally::of(dump));
-        let clip = dagsumilat::cut(dump, order.period.window(), mutes);
-        (counting.join().expect("counting does not panic"), clip)
-    });
-    match clip {
-        Ok(clip) => Ok((before, clip)),
-        Err(refusal) => {
-            Err(Stop::Refused(advice::dump_refused(&recording.name(), dump, refusal.fault)))
+fn refused(recording: &Recording, fault: Fault) -> Stop {
+    Stop::Refused(advice::dump_refused(&recording.name(), &recording.octets, fault))
+}
+
+/// What is written has no name yet: whoever counts may still say no.
+fn draft_and_count<'a>(
+    order: &'a CutOrder,
+    clip: &'a [u8],
+    progress: &mut Progress,
+) -> Result<(Option<Draft<'a>>, Tally), Stop> {
+    let target = order.target.as_ref().filter(|_| !order.is_dry);
+    thread::scope(|scope| {
+        let counting = scope.spawn(|| Tally::of(clip));
+        let draft = target.map(|target| target.draft(clip, progress)).transpose();
+        let after = counting.join().expect("counting does not panic");
+        draft.map(|draft| (draft, after))
+    })
+}
+
+/// A cut, and what stands in the clip.
+struct Counted<'a> {
+    done: &'a Cut,
+    after: Tally,
+    peers: BTreeMap<u32, Of>,
+}
+
+impl Counted<'_> {
+    fn warnings(&self, order: &CutOrder) -> Vec<Warning> {
+        let judged = Judged {
+            period: order.period,
+            muting: &self.done.muting,
+            before: &self.done.before,
+            after: &self.after,
+            peers_before: &self.done.peers,
+            peers_after: &self.peers,
+            is_verbose: order.is_verbose,
+        };
+        judged.warnings()
+    }
+
+    /// The library has left out all muted numbers; that they are all who should go is the shell's
+    /// word, so it is looked at once more.
+    fn refuse_strangers(&self) -> Result<(), Stop> {
+        let Some(agreed) = &self.done.muting.agreed else {
+            return Ok(());
+        };
+        match self.peers.keys().find(|number| agreed.binary_search(number).is_err()) {
+            None => Ok(()),
+            Some(number) => Err(Stop::Trouble(format!(
+                "nothing is written: AS{number} has not agreed and is in the clip; please report this"
+            ))),
         }
     }
 }
 
-fn write_and_count(target: &Target, clip: &[u8], progress: &mut Progress) -> Result<Tally, Stop> {
-    thread::scope(|scope| {
-        let counting = scope.spawn(|| Tally::of(clip));
-        let written = target.write(clip, progress);
-        let after = counting.join().expect("counting does not panic");
-        written.map(|()| after)
+/// Judges the cut, then gives the files their names: first the clip, then its report.
+fn finish(
+    order: &CutOrder,
+    recording: &Recording,
+    counted: &Counted,
+    mut warnings: Vec<Warning>,
+    draft: Option<Draft>,
+) -> Result<(), Stop> {
+    counted.refuse_strangers()?;
+    let doubts = order.doubts.iter().cloned();
+    warnings.extend(doubts.map(|words| Warning { is_serious: true, words }));
+    warnings.extend(counted.warnings(order));
+    // The sort keeps the order of those that are alike.
+    warnings.sort_by_key(|warning| warning.is_serious);
+    let name = clip_name(order);
+    let outcome = Outcome {
+        clip: &name,
+        period: order.period,
+        muting: &counted.done.muting,
+        before: &counted.done.before,
+        after: &counted.after,
+        peers_before: &counted.done.peers,
+        peers_after: &counted.peers,
+        octets: (recording.octets.len() as u64, counted.done.clip.len() as u64),
+        is_brief: order.is_brief,
+    };
+    let refused = order.is_strict && !warnings.is_empty();
+    if !refused && !order.is_dry {
+        let clip = &counted.done.clip[..];
+        let evidence = Evidence { order, recording, clip, outcome: &outcome, warnings: &warnings };
+        place(order.report.as_ref(), &evidence, draft)?;
+    }
+    tell_all(order, &outcome, &warnings);
+    match refused {
+        true => Err(Stop::Refused(format!(
+            "--strict: nothing is written, for {} warning(s)",
+            warnings.len()
+        ))),
+        false => Ok(()),
+    }
+}
+
+fn clip_name(order: &CutOrder) -> String {
+    let name = order.target.as_ref().map_or_else(|| "the clip".to_string(), Target::shown);
+    match order.is_dry {
+        true => format!("{name} (dry run, nothing is written)"),
+        false => name,
+    }
+}
+
+/// The report is whole before the clip has its name.
+fn place(report: Option<&Target>, evidence: &Evidence, draft: Option<Draft>) -> Result<(), Stop> {
+    let text = report.map(|_| evidence.text()).unwrap_or_default();
+    let quiet = &mut Progress::new(false);
+    let report = report.map(|target| target.draft(text.as_bytes(), quiet)).transpose()?;
+    draft.map_or(Ok(()), Draft::place)?;
+    report.map_or(Ok(()), |report| {
+        report.place().map_err(|stop| stop.after("the clip is written, its report is not"))
     })
+}
+
+fn tell_all(order: &CutOrder, outcome: &Outcome, warnings: &[Warning]) {
+    if !order.is_quiet {
+        tell(&outcome.report());
+    }
+    let (minor, serious) = warnings.split_at(warnings.partition_point(|it| !it.is_serious));
+    minor.iter().for_each(|warning| tell(&format!("warning: {}", warning.words)));
+    if !serious.is_empty() {
+        stop::apart();
+    }
+    serious.iter().for_each(|warning| tell(&format!("WARNING: {}", warning.words)));
 }

@@ -84,36 +84,59 @@ Example:
 ";
 
 pub const CUT: &str = "\
-Usage: dagsumilat cut FILE --from TIME --to TIME [--mute AS]... [--mute-file F]... -o OUT
+Usage: dagsumilat cut FILE... [WHEN] [WHO] -o OUT [OPTION]...
 
-Writes to OUT the records of FILE from TIME up to but not including TIME, without the peers
-whose AS is muted. Peer tables are kept at any time, without muted peers. Muted AS numbers
-stay visible inside other peers' paths.
+Writes to OUT what is left of FILE: the records of a window of time, without the
+peers that are muted. Peer tables are kept at any time, without muted peers.
+Several FILEs are one recording, laid end to end in their order.
 
-  --from TIME      the window's start, which is in it
-  --to TIME        the window's end, which is not in it
+When (all times, if nothing is said):
+  --from TIME      the window's start, which is in it; left out: from the first on
+  --to TIME        the window's end, which is not in it; left out: up to the last
+  --around TIME --seconds N
+                   from N seconds before TIME up to N seconds after it
+Who (everybody, if nothing is said):
   --mute AS        leave out the peers with this AS; may be repeated
-  --mute-file F    AS numbers from a file, one a line; # starts a comment
+  --mute-file F    AS numbers from a file
+  --mute-address IP
+                   leave out the AS behind a peer's address; refused where it has
+                   other peers too, unless --force
+  --mute-address-file F
+                   addresses from a file
+  --only AS        leave out every peer AS of the dump but this; may be repeated,
+                   not together with --mute
+  --only-file F    AS numbers of those who agreed, from a file
+What comes of it:
   -o, --output OUT the clip; - is standard output. It appears whole or not at all
-  -f, --force      replace OUT if it exists
+  --report FILE    the report as JSON, to be kept with the clip
+  --dry-run        report, and write nothing
+  --strict         write nothing if there is any warning (exit status 1)
+  -f, --force      replace OUT and the report if they exist
+  --brief          at most 20 lines of each list in the report
+  --verbose        all numbers that a warning is about
   -q, --quiet      no report; warnings are still told
+  --limit SIZE     read no more than this, unpacked; 8G if not given
   --no-progress    no bar for a large file
 
 TIME is one of
-  2026-03-01T12:00:00.011Z   a date and time in UTC, with up to 6 digits of fraction
-  1772366400011000           a whole number: microseconds since 1970
+  2026-03-01T12:00:00.011Z   a date and time with up to 6 digits of fraction; Z is
+                             UTC, an offset is written as +01:00
+  1772366400011000           a whole number: microseconds since 1970; refused below
+                             100000000000, where seconds may be meant
   1772366400.011             a number with a point: seconds since 1970
-AS is 64500, AS64500, or 1.10 for AS65546.
+AS is 64500, AS64500, or 1.10 for AS65546. F has one a line; # starts a comment; -
+is standard input.
 
-The report names the peer AS numbers still in the clip. Look at it before the clip is sent.
+The report names the peer AS numbers still in the clip. Look at it before the clip
+is sent. A mute is by peer: muted AS numbers may stand inside other peers' paths.
 
 Examples:
   One minute from the withdrawal on:
     dagsumilat cut day.mrt.gz --from 2026-03-01T12:00:00.011Z \\
       --to 2026-03-01T12:01:00.011Z -o clip.mrt
-  All times, without the peers that are listed in a file:
-    dagsumilat cut table.mrt --from 0 --to 9999-01-01T00:00:00Z --mute-file private.txt \\
-      -o public.mrt
+  All times, only those who agreed, with a report to keep:
+    dagsumilat cut table.mrt --only-file agreed.txt --strict -o public.mrt \\
+      --report public.json
 ";
 
 /// The words of a text that are options.
@@ -125,7 +148,6 @@ pub fn options(text: &str) -> impl Iterator<Item = &str> {
 #[cfg(test)]
 mod tests {
     use super::*;
-    use dagsumilat::Fault;
 
     const MANUAL: &str = include_str!("../dagsumilat.1");
 
@@ -137,15 +159,6 @@ mod tests {
             for option in options(text) {
                 assert!(manual.contains(option), "{option} is not in the manual");
             }
-        }
-    }
-
-    /// But that of no room: the program always has it.
-    #[test]
-    fn the_manual_has_every_fault() {
-        let told = Fault::ALL.into_iter().filter(|fault| *fault != Fault::Room);
-        for number in told.map(Fault::number) {
-            assert!(MANUAL.contains(&format!("\n.B {number}\n")), "{number} is not in the manual");
         }
     }
 

@@ -1,5 +1,6 @@
 //! Writing a clip, whole or not at all.
 
+use crate::escaped;
 use crate::progress::Progress;
 use crate::stop::Stop;
 use crate::system::{self, SignalsWait};
@@ -36,6 +37,11 @@ impl Target {
         }
     }
 
+    /// The name for a message.
+    pub fn shown(&self) -> String {
+        escaped::path(self.name())
+    }
+
     /// Refuses, before anything is read, what must not be written: an input, by whatever name, a
     /// file that is there already, or something that is no file.
     pub fn refuse_early(&self, inputs: &[Metadata]) -> Result<(), Stop> {
@@ -70,13 +76,6 @@ impl Target {
             .and_then(|mut file| file.write(octets, progress).map(|()| file));
         let file = written.map_err(|error| Stop::writing(path, &error))?;
         Ok(Draft { target: self, octets, file: Some(file) })
-    }
-}
-
-impl Target {
-    /// Both steps in one. (Until the cut takes them itself.)
-    pub fn write(&self, octets: &[u8], progress: &mut Progress) -> Result<(), Stop> {
-        self.draft(octets, progress)?.place()
     }
 }
 

@@ -38,6 +38,14 @@ impl Stop {
         }
     }
 
+    /// The same, with what has happened before.
+    pub fn after(self, before: &str) -> Stop {
+        match self {
+            Stop::Trouble(words) => Stop::Trouble(format!("{before}: {words}")),
+            other => other,
+        }
+    }
+
     /// Tells the words and gives the exit status.
     pub fn tell(&self) -> ExitCode {
         match self {
@@ -52,6 +60,11 @@ impl Stop {
             Stop::Closed => ExitCode::SUCCESS,
         }
     }
+}
+
+/// A line without words, before what is not to be overlooked.
+pub fn apart() {
+    let _ = writeln!(io::stderr().lock());
 }
 
 /// Writes to standard error under the program's name, in lines that fit a terminal. That nobody can

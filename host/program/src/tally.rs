@@ -50,7 +50,7 @@ pub struct Count {
 }
 
 impl Count {
-    fn add(&mut self, other: &Count) {
+    pub fn add(&mut self, other: &Count) {
         self.peers += other.peers;
         self.entries += other.entries;
         self.records += other.records;

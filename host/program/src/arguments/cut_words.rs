@@ -7,6 +7,7 @@ use super::{
 };
 use crate::as_number;
 use crate::input::Source;
+use crate::muting::address;
 use crate::output::Target;
 use crate::words::Words;
 use std::ffi::OsString;
@@ -64,11 +65,6 @@ impl Taker for CutWords {
         }
         Ok(())
     }
-}
-
-/// An IP address as people write it.
-pub fn address(text: &str) -> Result<IpAddr, String> {
-    text.parse().map_err(|_| "is no IP address; write one as 192.0.2.1 or 2001:db8::1".to_string())
 }
 
 impl CutWords {

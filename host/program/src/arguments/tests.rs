@@ -46,7 +46,7 @@ fn help_and_version() {
     ] {
         assert_eq!(parsed(line), Ok(Request::Text(text)), "{line}");
     }
-    assert_misuse("help ctu", "no such command: ctu");
+    assert_misuse("help ctu", "no such command: ctu (did you mean cut?)");
     assert_misuse("help cut a", "takes no more words");
     assert_misuse("version 2", "takes no more words");
 }
@@ -153,7 +153,12 @@ fn what_does_not_go_together() {
 }
 
 #[test]
-fn unknown_words() {
+fn mistyped_words_have_a_hint() {
+    assert_misuse("chekc a", "no such command: chekc (did you mean check?)");
+    assert_misuse("cuts a", "(did you mean cut?)");
+    assert_misuse("--hepl", "no such option: --hepl (did you mean --help?)");
+    assert_misuse("report a --tabel", "no such option: --tabel (did you mean --table?)");
+    assert_misuse("cut a -o b --mutes 7", "(did you mean --mute?)");
     assert_misuse("list a --mute", "no such option: --mute");
     assert_misuse("\u{1b}[2J a", "no such command: \\u{1b}[2J");
 }

@@ -13,7 +13,11 @@ use std::{env, process};
 const LONGEST: Duration = Duration::from_secs(60);
 
 /// What cargo is told to run programs of another machine with.
-const RUNNER: &str = "CARGO_TARGET_X86_64_UNKNOWN_LINUX_GNU_RUNNER";
+const RUNNER: &str = if cfg!(target_arch = "aarch64") {
+    "CARGO_TARGET_AARCH64_UNKNOWN_LINUX_GNU_RUNNER"
+} else {
+    "CARGO_TARGET_X86_64_UNKNOWN_LINUX_GNU_RUNNER"
+};
 
 pub struct Run {
     pub status: Option<i32>,

@@ -12,7 +12,7 @@ fn help_and_version() {
         assert!(run(&[name, "--help"]).ended(0).out_text().starts_with(&usage));
     }
     let cut = run(&["cut", "--help"]).ended(0);
-    assert!(cut.out_text().contains("up to but not including"));
+    assert!(cut.out_text().contains("the window's end, which is not in it"));
 }
 
 #[test]
