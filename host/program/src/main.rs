@@ -59,6 +59,10 @@ fn run() -> Result<(), Stop> {
         let command = command.map(|name| format!(" {name}")).unwrap_or_default();
         Stop::Usage(format!("{words}\n  `dagsumilat{command} --help` says how it is used"))
     })?;
+    if !matches!(request, Request::Cut(_)) {
+        // Before anything is read that could not be told to anybody.
+        output::refuse_closed()?;
+    }
     match request {
         Request::Text(text) => {
             let printed = io::stdout().lock().write_all(text.as_bytes());

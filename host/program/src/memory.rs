@@ -70,6 +70,21 @@ fn grow(octets: &mut Vec<u8>, more: usize) -> Result<(), Unread> {
     got.map_err(|_| Unread::Memory { there: octets.len(), wanted: more })
 }
 
+/// Room for a clip: so many zeros, with some memory left for all that follows. Best asked for while
+/// no other thread runs, which could take what was just found to be there.
+pub fn zeros(size: usize) -> Result<Vec<u8>, Unread> {
+    let mut room = Vec::<u8>::new();
+    let got = room.try_reserve_exact(size.saturating_add(REST));
+    // Else the compiler may leave out what nobody uses.
+    black_box(&room);
+    got.map_err(|_| Unread::Memory { there: 0, wanted: size })?;
+    drop(room);
+    // The system has these at once, where memory that was reserved would have to be filled.
+    let zeros = vec![0; size];
+    dagsumilat::in_large_pages(&zeros);
+    Ok(zeros)
+}
+
 /// Appends all that `from` gives, as long as there are at most `limit` octets. After each piece
 /// `after_each` is told how many octets there are.
 pub fn append(

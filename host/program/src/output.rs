@@ -7,7 +7,7 @@ use crate::system::{self, SignalsWait};
 use std::ffi::OsStr;
 use std::fmt::Display;
 use std::fs::{self, File, Metadata, Permissions};
-use std::io::{self, ErrorKind, IsTerminal, StdoutLock, Write};
+use std::io::{self, ErrorKind, IsTerminal, Write};
 use std::os::fd::AsFd;
 use std::os::unix::fs::{MetadataExt, OpenOptionsExt, PermissionsExt};
 use std::path::{Path, PathBuf};
@@ -95,7 +95,7 @@ impl Draft<'_> {
             (Target::File { path, force }, Some(file)) => {
                 file.place(path, *force).or_else(|error| again(path, *force, self.octets, error))
             }
-            _ => write_chunks(&mut printing()?, self.octets, |_| {}),
+            _ => write_chunks(&mut io::stdout().lock(), self.octets, |_| {}),
         };
         placed.map_err(|error| match error.kind() {
             ErrorKind::AlreadyExists => Stop::writing(self.target.name(), &EXISTS),
@@ -104,11 +104,11 @@ impl Draft<'_> {
     }
 }
 
-/// Standard output, unless it was closed when the program started: what is printed would be lost,
-/// and nobody would be told.
-pub fn printing() -> Result<StdoutLock<'static>, Stop> {
+/// What is printed where standard output was closed when the program started would be lost, and
+/// nobody would be told.
+pub fn refuse_closed() -> Result<(), Stop> {
     match system::was_open(1) {
-        true => Ok(io::stdout().lock()),
+        true => Ok(()),
         false => Err(Stop::writing(Path::new("standard output"), &"it is closed")),
     }
 }
@@ -122,7 +122,8 @@ fn is_among(found: &Metadata, inputs: &[Metadata]) -> bool {
 
 /// Standard output may lead to a file, too; a terminal may be both.
 fn refuse_standard(inputs: &[Metadata]) -> Result<(), Stop> {
-    let out = printing()?;
+    refuse_closed()?;
+    let out = io::stdout();
     let stop = |error: &dyn Display| Stop::writing(Path::new("standard output"), error);
     let file = out.as_fd().try_clone_to_owned().map(File::from);
     let found = file.and_then(|file| file.metadata()).map_err(|error| stop(&error))?;

@@ -33,15 +33,10 @@ fn unit_of(letters: &str) -> Option<u64> {
 
 /// With a comma before each group of three digits, as a person reads it.
 pub fn shown(size: u64) -> String {
-    let digits = size.to_string();
-    let mut shown = String::new();
-    for (index, digit) in digits.chars().enumerate() {
-        if index > 0 && (digits.len() - index) % 3 == 0 {
-            shown.push(',');
-        }
-        shown.push(digit);
-    }
-    shown
+    let digits = size.to_string().into_bytes();
+    let mut groups: Vec<_> = digits.rchunks(3).map(String::from_utf8_lossy).collect();
+    groups.reverse();
+    groups.join(",")
 }
 
 #[cfg(test)]
