@@ -98,9 +98,7 @@ fn cut_and_count(
     });
     match clip {
         Ok(clip) => Ok((before, clip)),
-        Err(refusal) => {
-            Err(Stop::Refused(advice::dump_refused(&recording.name(), dump, refusal.fault)))
-        }
+        Err(refusal) => Err(Stop::Refused(advice::dump_refused(recording, refusal.fault))),
     }
 }
 

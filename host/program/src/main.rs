@@ -8,16 +8,22 @@ mod archive;
 mod arguments;
 mod as_number;
 mod bgp_length;
+mod check;
+mod contents;
 mod cut;
 mod excerpt;
 mod header;
 mod help;
 mod input;
+mod kinds;
+mod list;
+mod long_list;
 mod moment;
 mod mutes;
 mod near;
 mod outcome;
 mod output;
+mod peers;
 mod period;
 mod progress;
 mod session_report;
@@ -52,9 +58,9 @@ fn run() -> Result<(), Stop> {
             let printed = io::stdout().lock().write_all(text.as_bytes());
             printed.map_err(|error| Stop::printing(&error))
         }
-        Request::List(order) => show::list(&order),
-        Request::Check(reading) => show::check(&reading),
-        Request::Peers(reading) => show::peers(&reading),
+        Request::List(order) => list::list(&order),
+        Request::Check(reading) => check::check(&reading),
+        Request::Peers(reading) => peers::peers(&reading),
         Request::Report(order) => session_report::report(&order),
         Request::Cut(order) => cut::cut(&order),
     }
