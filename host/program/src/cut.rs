@@ -107,7 +107,7 @@ fn refuse_size(size: usize) -> Result<(), Stop> {
 }
 
 fn refused(recording: &Recording, fault: Fault) -> Stop {
-    Stop::Refused(advice::dump_refused(&recording.name(), &recording.octets, fault))
+    Stop::Refused(advice::dump_refused(recording, fault))
 }
 
 /// What is written has no name yet: whoever counts may still say no.
