@@ -3,23 +3,25 @@
 pub const VERSION: &str = concat!("dagsumilat ", env!("CARGO_PKG_VERSION"), "\n");
 
 pub const PROGRAM: &str = "\
-Usage: dagsumilat COMMAND FILE [OPTION]...
+Usage: dagsumilat COMMAND FILE... [OPTION]...
 
 Checks, lists, counts and cuts MRT dumps (RFC 6396) of route collectors.
 
 Commands:
-  list FILE    one line for each record, then the first fault
-  check FILE   says whether the dump is good, or what is wrong and where
-  peers FILE   the peer AS numbers in the dump, with counts
-  report FILE...
-               records, state changes and breaks over many dumps
-  cut FILE --from TIME --to TIME [--mute AS]... -o OUT
-               keeps a window of time and leaves out the peers of muted AS numbers
-  COMMAND --help says more.
+  list FILE...    a line for each record, then the first fault
+  check FILE...   says whether the dump is good, or what is wrong and where
+  peers FILE...   the peer AS numbers in the dump, with counts
+  report FILE...  records, state changes and breaks over many dumps
+  cut FILE... [--from TIME] [--to TIME] [--mute AS]... -o OUT
+                  keeps a window of time, without the peers of muted AS numbers
+  help [COMMAND]  says more, as COMMAND --help does
+  version         says which version this is, as --version does
 
-FILE may be packed by gzip or bzip2; - is standard input.
-Exit status: 0 done, 1 the dump or the order was refused, 2 wrong usage, or something could
-not be read or written.
+Several FILEs are one recording, laid end to end in the order given; report
+counts each by itself. A FILE may be packed by gzip, bzip2, xz or zstd; - is
+standard input.
+Exit status: 0 done, 1 the dump or the order was refused, 2 wrong usage, or
+something could not be read or written.
 
 Examples:
   Is the dump good?

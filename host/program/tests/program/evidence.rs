@@ -198,6 +198,7 @@ fn it_is_written_with_the_clip_or_not_at_all() {
     order(&folder.word("none/report")).ended(2).told("its folder");
     order(SAMPLE).ended(2).told("it is an input");
     order(&out).ended(2).told("two names");
+    order(&folder.word("./clip")).ended(2).told("it is OUT too");
     let report = folder.file("report", b"an earlier one");
     order(&report).ended(2).told("--force replaces it");
     assert_eq!(folder.names(), ["report"]);
