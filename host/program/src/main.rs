@@ -49,7 +49,7 @@ mod wrap;
 
 use arguments::Request;
 use std::env;
-use std::io::Write;
+use std::io::{self, Write};
 use std::process::ExitCode;
 use stop::Stop;
 
@@ -71,7 +71,7 @@ fn run() -> Result<(), Stop> {
     }
     match request {
         Request::Text(text) => {
-            let printed = output::printing()?.write_all(text.as_bytes());
+            let printed = io::stdout().lock().write_all(text.as_bytes());
             printed.map_err(|error| Stop::printing(&error))
         }
         Request::List(order) => list::list(&order),
