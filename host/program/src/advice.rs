@@ -1,4 +1,4 @@
-//! A fault in words: what it means, where it is, what it often comes from, and what a person can do.
+//! A fault in words: what it means, where it is, what it often comes from and what can be done.
 
 use crate::contents::{self, Look};
 use crate::header::Header;
@@ -203,6 +203,16 @@ outside 1 to 6
         let before =
             "2 good record(s), 64 octets, stand before it: 32 of these octets are in b.mrt.";
         assert!(words.contains(before) && !words.contains("head -c"), "{words}");
+    }
+
+    /// What `head` would take of it is the archive's first octets, not the dump's.
+    #[test]
+    fn of_a_packed_file_no_octets_are_to_be_cut() {
+        let mut packed = recording(&[("a.mrt.gz", &[change(4), change(7)].concat())]);
+        packed.parts[0].archive = Some(crate::archive::Archive::Gzip);
+        let words = dump_refused(&packed, Fault::State);
+        assert!(words.contains("stand before it: alone, unpacked, they are a good dump.\n"));
+        assert!(!words.contains("head -c"), "{words}");
     }
 
     /// The rest of the record is taken from the next file.

@@ -83,10 +83,13 @@ const TEXT: Look = Look {
     remedy: "read it, and fetch the dump again.",
 };
 
-/// What these octets, from a file's first one on, look like; none if that cannot be told. A dump is
-/// none of these: the high octet of its first record's Type is 0, and the low one is not.
+/// What these octets, from a file's first one on, look like; none if that cannot be told. Where a
+/// Type of MRT is in its place they are those of a dump, whatever its first time may look like.
 pub fn looks_like(octets: &[u8]) -> Option<Look> {
     let octets = &octets[..octets.len().min(LOOKED_AT)];
+    if matches!(octets, [_, _, _, _, 0, 11..=13 | 16 | 17 | 32 | 33 | 48 | 49, ..]) {
+        return None;
+    }
     let marked = MARKS.iter().find(|(mark, _)| octets.starts_with(mark));
     if let Some((_, look)) = marked {
         return Some(*look);
@@ -212,7 +215,8 @@ mod tests {
         assert_eq!(looks_like(&[9; 11]), None, "nothing to be read in it");
         assert_eq!(looks_like(&[0x80; 40]), None);
         assert_eq!(looks_like(b"\x01\x02\x03\x04abcdefgh\x05\x06\x07"), None);
-        for time in [0, 0x0a0d_0d0b, 0x4142_4344, 1_772_366_400, u32::MAX] {
+        let marks = [*b"BZh9", *b"PK\x03\x04", *b"\n\r\r\n"].map(u32::from_be_bytes);
+        for time in [0, 0x4142_4344, 1_772_366_400, u32::MAX].into_iter().chain(marks) {
             let mut record = time.to_be_bytes().to_vec();
             record.extend([0, 16, 0, 9, 0, 0, 0, 20]);
             record.extend([b'a'; 20]);

@@ -2,7 +2,7 @@
 
 use crate::show::Out;
 use crate::{kinds, moment};
-use dagsumilat::{records, Fields, Kind, PeerTable, Record, Refusal};
+use dagsumilat::{records, Fields, PeerTable, Record, Refusal};
 use std::io::{self, Write};
 use std::net::{IpAddr, Ipv4Addr, Ipv6Addr};
 
@@ -21,7 +21,8 @@ impl LongList {
     /// For this dump: the columns are as wide as its offsets and addresses need.
     pub fn new(dump: &[u8]) -> LongList {
         let offset = dump.len().to_string().len().max("offset".len());
-        let peers = records(dump).flatten().filter_map(|record| peer(&record));
+        let has_peer = |record: &Record| record.peer_as().is_some();
+        let peers = records(dump).flatten().filter(has_peer).filter_map(|it| peer(&it.fields()));
         let address = peers.map(|(_, address)| width(address)).max().unwrap_or(0);
         LongList { offset, address: address.max("address".len()), shown: 0 }
     }
@@ -41,12 +42,13 @@ impl LongList {
 
     pub fn record(&mut self, record: &Record, out: &mut Out) -> io::Result<()> {
         self.shown += 1;
-        let (number, address) = match peer(record) {
+        let fields = record.fields();
+        let (number, address) = match peer(&fields) {
             Some((number, address)) => (format!("AS{number}"), address.to_string()),
             None => Default::default(),
         };
         let (offset, time) = (record.at.to_string(), moment::shown(record.time));
-        let contents = contents(record);
+        let contents = contents(&fields);
         self.line(out, [&offset, &time, kind(record), &number, &address, &contents])
     }
 
@@ -78,11 +80,8 @@ fn width(address: IpAddr) -> usize {
 }
 
 /// Who sent what the record has, where that is one peer.
-fn peer(record: &Record) -> Option<(u32, IpAddr)> {
-    if matches!(record.kind(), Kind::PeerTable | Kind::Rib | Kind::Unread) {
-        return None;
-    }
-    match record.fields() {
+fn peer(fields: &Fields) -> Option<(u32, IpAddr)> {
+    match fields {
         Fields::TableDump(route) => Some((route.peer_as.into(), route.peer()?)),
         Fields::StateChange(change) => Some((change.session.peer_as, change.session.peer()?)),
         Fields::Message(message) => Some((message.session.peer_as, message.session.peer()?)),
@@ -95,11 +94,11 @@ fn kind(record: &Record) -> &'static str {
     kinds::of_subtype(type_code, subtype).or(kinds::of_type(type_code)).unwrap_or_default()
 }
 
-fn contents(record: &Record) -> String {
-    match record.fields() {
+fn contents(fields: &Fields) -> String {
+    match fields {
         Fields::Unread(unread) => counted(unread.contents.len(), "octet", "octets"),
         Fields::TableDump(route) => prefix(route.prefix, route.prefix_length),
-        Fields::PeerTable(table) => peers(&table),
+        Fields::PeerTable(table) => peers(table),
         Fields::Rib(rib) => {
             let is_long = matches!(rib.subtype, 4 | 5);
             entries(&address(rib.prefix, is_long), rib.prefix_length, rib.count)
