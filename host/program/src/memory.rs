@@ -67,7 +67,9 @@ pub fn expect(octets: &mut Vec<u8>, more: u64) -> Result<(), Unread> {
 /// moved for each of them.
 fn grow(octets: &mut Vec<u8>, more: usize) -> Result<(), Unread> {
     let got = octets.try_reserve(more).or_else(|_| octets.try_reserve_exact(more));
-    got.map_err(|_| Unread::Memory { there: octets.len(), wanted: more })
+    got.map_err(|_| Unread::Memory { there: octets.len(), wanted: more })?;
+    dagsumilat::in_large_pages(octets.spare_capacity_mut());
+    Ok(())
 }
 
 /// Room for a clip: so many zeros, with some memory left for all that follows. Best asked for while

@@ -1,10 +1,13 @@
 //! Dumps packed by gzip, bzip2, xz and zstd.
 
-use crate::dumps::{change, record, sample};
-use crate::run::{command, finish, run, run_fed, Folder, Run};
-use std::fs::File;
+use crate::dumps::{change, record, sample, SAMPLE};
+use crate::memory::{assert_short, run_short};
+use crate::run::{command, finish, is_emulated, run, run_fed, Folder, Run};
+use std::fs::{self, File, Permissions};
 use std::io::Write;
+use std::os::unix::fs::PermissionsExt;
 use std::process::{Command, Stdio};
+use std::time::{Duration, Instant};
 
 const PROGRAMS: [(&str, &str); 5] =
     [("gzip", "gz"), ("bzip2", "bz2"), ("xz", "xz"), ("zstd", "zst"), ("zstd", "ZSTD")];
@@ -165,5 +168,67 @@ fn a_missing_program_is_named() {
         let mut command = command(&["check", &file]);
         command.env("PATH", folder.path("nowhere"));
         finish(command).ended(2).told(&format!("install {program}"));
+    }
+}
+
+#[test]
+fn no_more_is_unpacked_than_the_limit() {
+    let folder = Folder::new("limit-packed");
+    for (program, extension) in PROGRAMS {
+        let file = folder.file(&format!("dump.{extension}"), &pack(&folder, program, &sample()));
+        let words = "more than 3,328 octets, unpacked; --limit SIZE";
+        run(&["check", &file, "--limit=3329"]).ended(0);
+        run(&["check", &file, "--limit=3328"]).ended(2).told(words);
+        run(&["check", SAMPLE, &file, "--limit=6658"]).ended(0);
+        run(&["check", SAMPLE, &file, "--limit=6657"]).ended(2).told("more than 6,657 octets");
+    }
+}
+
+/// Some hundred kilobytes that unpack to a gigabyte.
+#[test]
+fn an_archive_of_too_much_is_ended_soon() {
+    let folder = Folder::new("bomb");
+    for (program, extension) in [("gzip", "gz"), ("zstd", "zst")] {
+        let file = folder.word(&format!("bomb.{extension}"));
+        let script = format!("head -c 1000000000 /dev/zero | {program} -1 >'{file}'");
+        assert!(Command::new("sh").args(["-c", &script]).status().unwrap().success());
+        let now = Instant::now();
+        run(&["check", &file, "--limit", "10M"]).ended(2).told("more than 10,000,000 octets");
+        let most = if is_emulated() { 20 } else { 3 };
+        assert!(now.elapsed() < Duration::from_secs(most), "{:?}", now.elapsed());
+    }
+}
+
+/// An emulator would be short of it first.
+#[test]
+fn too_little_memory_for_what_is_unpacked() {
+    if is_emulated() {
+        return;
+    }
+    let folder = Folder::new("short-packed");
+    let octets = record(1, 48, 0, &[0; 1_000_000]).repeat(64);
+    let file = folder.file("dump.gz", &pack(&folder, "gzip", &octets));
+    assert_short(&["check", &file], &[], 64_000);
+    run_short(1_000_000, &["check", &file], &[]).ended(0);
+}
+
+/// Where the program that unpacks has too little, the archive is not said to be damaged.
+#[test]
+fn too_little_memory_for_the_program_that_unpacks() {
+    if is_emulated() {
+        return;
+    }
+    let folder = Folder::new("short-program");
+    for (program, extension) in PROGRAMS {
+        let file = folder.file(&format!("dump.{extension}"), &pack(&folder, program, &large()));
+        let script = "ulimit -v 3000; exec \"$0\" \"$@\"";
+        let inner = folder.file(
+            program,
+            format!("#!/bin/sh\nexec sh -c '{script}' /usr/bin/{program} \"$@\"\n").as_bytes(),
+        );
+        fs::set_permissions(&inner, Permissions::from_mode(0o755)).unwrap();
+        let mut command = command(&["check", &file]);
+        command.env("PATH", format!("{}:/usr/bin:/bin", folder.word("")));
+        finish(command).ended(2).told("cannot read").silent_about("damaged");
     }
 }

@@ -3,7 +3,7 @@
 use crate::dumps::{record, sample, SAMPLE};
 use crate::run::{command, finish, is_emulated, run, run_on_terminal, words, Folder, Run};
 use std::fs::{self, File, Permissions};
-use std::os::unix::fs::{symlink, FileTypeExt, PermissionsExt};
+use std::os::unix::fs::{symlink, FileTypeExt, OpenOptionsExt, PermissionsExt};
 use std::process::{Child, Command, Stdio};
 use std::thread;
 use std::time::Instant;
@@ -258,10 +258,28 @@ fn end_at_many_moments(arguments: &[&str], signal: &str, mut look: impl FnMut())
         let mut child = start(arguments);
         thread::sleep(whole * moment * 11 / (10 * count));
         // It may have ended already.
-        let _ = Command::new("kill").args(["-s", signal, &child.id().to_string()]).output();
+        let kill = format!("kill -s {signal} {} 2>&-", child.id());
+        Command::new("sh").args(["-c", &kill]).status().unwrap();
         child.wait().unwrap();
         look();
     }
+}
+
+/// Whether the file system of this folder has files without a name.
+fn has_unnamed_files(folder: &Folder) -> bool {
+    let directory = if cfg!(target_arch = "aarch64") { 0o40_000 } else { 0o200_000 };
+    let flags = 0o20_000_000 | directory;
+    File::options().write(true).custom_flags(flags).open(folder.path("")).is_ok()
+}
+
+/// The names in the folder but those of drafts; these are removed, and `is_allowed` says whether
+/// they may be there.
+fn names_without_drafts(folder: &Folder, is_allowed: bool) -> Vec<String> {
+    let (drafts, names): (Vec<_>, Vec<_>) =
+        folder.names().into_iter().partition(|name| name.starts_with(".dagsumilat-"));
+    assert!(drafts.is_empty() || is_allowed, "{drafts:?}");
+    drafts.iter().for_each(|name| fs::remove_file(folder.path(name)).unwrap());
+    names
 }
 
 #[test]
@@ -270,32 +288,46 @@ fn a_signal_leaves_all_or_nothing() {
     let (octets, out) = (large(), folder.word("clip"));
     let file = folder.file("dump", &octets);
     let order = [&["cut", &file, "-qo", &out], &ALL[..]].concat();
+    let is_named = !has_unnamed_files(&folder);
     for signal in ["KILL", "TERM"] {
         let (mut whole, mut none) = (0, 0);
-        end_at_many_moments(&order, signal, || match folder.names().len() {
-            1 => none += 1,
-            _ => {
-                assert_eq!(folder.names(), ["clip", "dump"]);
-                assert!(folder.read("clip") == octets);
-                fs::remove_file(&out).unwrap();
-                whole += 1;
+        end_at_many_moments(&order, signal, || {
+            let names = names_without_drafts(&folder, is_named);
+            if names == ["dump"] {
+                none += 1;
+                return;
             }
+            assert_eq!(names, ["clip", "dump"]);
+            assert!(folder.read("clip") == octets);
+            fs::remove_file(&out).unwrap();
+            whole += 1;
         });
         assert!(whole > 0 && none > 0, "{whole} whole, {none} without");
     }
-    fs::write(&out, "an earlier clip").unwrap();
-    let forced = [&order[..], &["--force"]].concat();
-    let (mut new, mut old) = (0, 0);
-    end_at_many_moments(&forced, "TERM", || {
-        assert_eq!(folder.names(), ["clip", "dump"]);
-        let clip = folder.read("clip");
-        if clip == octets {
-            fs::write(&out, "an earlier clip").unwrap();
+}
+
+#[test]
+fn a_signal_leaves_the_old_or_the_new() {
+    const OLD: &[u8] = b"an earlier clip";
+    let folder = Folder::new("signals-forced");
+    let (octets, out) = (large(), folder.file("clip", OLD));
+    let file = folder.file("dump", &octets);
+    let order = [&["cut", &file, "-fqo", &out], &ALL[..]].concat();
+    let is_named = !has_unnamed_files(&folder);
+    for signal in ["KILL", "TERM", "INT"] {
+        let (mut new, mut old) = (0, 0);
+        end_at_many_moments(&order, signal, || {
+            // This one cannot be made to wait.
+            let names = names_without_drafts(&folder, is_named || signal == "KILL");
+            assert_eq!(names, ["clip", "dump"]);
+            if folder.read("clip") == OLD {
+                old += 1;
+                return;
+            }
+            assert!(folder.read("clip") == octets);
+            fs::write(&out, OLD).unwrap();
             new += 1;
-        } else {
-            assert_eq!(clip, b"an earlier clip");
-            old += 1;
-        }
-    });
-    assert!(new > 0 && old > 0, "{new} new, {old} old");
+        });
+        assert!(new > 0 && old > 0, "{new} new, {old} old");
+    }
 }
