@@ -145,21 +145,17 @@ fn in_header(octets: &[u8], place: usize) -> Option<&'static str> {
     }
 }
 
+/// Which fields can have a fault.
+pub(crate) enum Fails {
+    Only(&'static [&'static str]),
+    /// Any that is laid out behind the header.
+    OfMessage,
+}
+
 fn can_have(name: &str, fault: Fault) -> bool {
-    match fault {
-        Fault::HeaderIncomplete | Fault::LengthPastEnd => name == "record",
-        Fault::Type => name == "Type",
-        Fault::Subtype | Fault::NoTable => name == "Subtype",
-        Fault::FieldIncomplete => !matches!(name, "record" | "Type" | "Subtype" | LEFT_OVER),
-        Fault::OctetsLeft => matches!(name, LEFT_OVER | "BGP length"),
-        Fault::Family => matches!(name, "address family" | "SAFI"),
-        Fault::PrefixLength => name == "prefix length",
-        Fault::State => matches!(name, "old state" | "new state"),
-        Fault::BgpLength => name == "BGP length",
-        Fault::Attributes => name == "attributes",
-        Fault::PeerIndex => name == "peer index",
-        Fault::ViewName => name == "view name",
-        Fault::Window | Fault::Room | Fault::Report => false,
+    match fault.entry().fails {
+        Fails::Only(names) => names.contains(&name),
+        Fails::OfMessage => !matches!(name, "record" | "Type" | "Subtype" | LEFT_OVER),
     }
 }
 
@@ -254,4 +250,26 @@ impl<'a> Walk<'a> {
 /// Up to four octets as a number.
 fn number(octets: &[u8]) -> usize {
     octets.iter().fold(0, |number, octet| number << 8 | usize::from(*octet))
+}
+
+#[cfg(test)]
+mod tests {
+    use super::*;
+
+    /// A slip in a name would leave a fault's field without one.
+    #[test]
+    fn the_fields_of_a_fault_are_laid_out() {
+        let laid_out: Vec<&str> =
+            [TABLE_DUMP, PEER_TABLE, PEER, RIB, RIB_GENERIC, ENTRY, SESSION, STATES, MESSAGE]
+                .iter()
+                .flat_map(|fields| fields.iter().map(|(name, _)| *name))
+                .chain(["record", "Type", "Subtype", LEFT_OVER])
+                .collect();
+        for fault in Fault::ALL {
+            if let Fails::Only(names) = fault.entry().fails {
+                let unknown = names.iter().find(|name| !laid_out.contains(name));
+                assert_eq!(unknown, None, "no field of fault {fault} has this name");
+            }
+        }
+    }
 }

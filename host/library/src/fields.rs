@@ -2,6 +2,8 @@
 //!
 //! Parts lie in the caller's octets. Prefix lengths are in bits.
 
+use crate::items::address;
+use std::net::IpAddr;
 use std::str::{self, Utf8Error};
 
 /// When a record was made.
@@ -38,6 +40,13 @@ pub struct TableDump<'a> {
     pub peer_address: &'a [u8],
     pub peer_as: u16,
     pub attributes: &'a [u8],
+}
+
+impl TableDump<'_> {
+    /// The peer's address: every record that was read has one.
+    pub fn peer(&self) -> Option<IpAddr> {
+        address(self.peer_address)
+    }
 }
 
 /// Type 13, Subtype 1.
@@ -118,6 +127,13 @@ pub struct Session<'a> {
     pub local_address: &'a [u8],
 }
 
+impl Session<'_> {
+    /// The peer's address: every session that was read has one.
+    pub fn peer(&self) -> Option<IpAddr> {
+        address(self.peer_address)
+    }
+}
+
 /// Type 16, and with microseconds 17, Subtypes 0 and 5.
 #[derive(Clone, Copy, Debug, PartialEq, Eq, Hash)]
 pub struct StateChange<'a> {
@@ -137,6 +153,13 @@ pub struct Message<'a> {
     pub session: Session<'a>,
     /// The BGP message, from its marker on.
     pub message: &'a [u8],
+}
+
+impl Message<'_> {
+    /// The BGP message's type: every one that was read has it.
+    pub fn type_octet(&self) -> Option<u8> {
+        self.message.get(18).copied()
+    }
 }
 
 /// The fields of one record.

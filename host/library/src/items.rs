@@ -40,7 +40,8 @@ impl Iterator for Peers<'_> {
             as_number: as_number as u32,
             type_octet: type_octet as u8,
             bgp_id: Ipv4Addr::from(bgp_id as u32),
-            address: address(&self.dump[from as usize..][..size as usize]),
+            address: address(&self.dump[from as usize..][..size as usize])
+                .expect("an address has 4 or 16 octets"),
         })
     }
 
@@ -51,14 +52,11 @@ impl Iterator for Peers<'_> {
 
 impl ExactSizeIterator for Peers<'_> {}
 
-fn address(octets: &[u8]) -> IpAddr {
-    match <[u8; 4]>::try_from(octets) {
-        Ok(short) => IpAddr::V4(Ipv4Addr::from(short)),
-        Err(_) => {
-            let long = <[u8; 16]>::try_from(octets).expect("an address has 4 or 16 octets");
-            IpAddr::V6(Ipv6Addr::from(long))
-        }
-    }
+/// The address of 4 or 16 octets; of any other number there is none.
+pub(crate) fn address(octets: &[u8]) -> Option<IpAddr> {
+    let short = <[u8; 4]>::try_from(octets).map(|octets| IpAddr::V4(Ipv4Addr::from(octets)));
+    let long = || <[u8; 16]>::try_from(octets).map(|octets| IpAddr::V6(Ipv6Addr::from(octets)));
+    short.or_else(|_| long()).ok()
 }
 
 /// An entry of a RIB record.

@@ -23,6 +23,7 @@
 #[doc(hidden)]
 pub mod calls;
 mod fault;
+mod faults;
 mod field;
 mod fields;
 mod first_fault;

@@ -2,41 +2,34 @@
 
 use crate::advice;
 use crate::arguments::CutOrder;
+use crate::evidence::Evidence;
+use crate::input::Recording;
+use crate::memory;
 use crate::moment;
-use crate::mutes;
+use crate::muting::{self, Muting, Wanted};
 use crate::outcome::Outcome;
+use crate::output::{Draft, Target};
 use crate::progress::Progress;
-use crate::stop::{tell, Stop};
-use crate::tally::Tally;
-use dagsumilat::Window;
-use std::hint::black_box;
+use crate::stop::{self, tell, Stop};
+use crate::tally::{Of, Tally};
+use crate::warnings::{Judged, Warning};
+use dagsumilat::{Fault, Window};
+use std::collections::BTreeMap;
 use std::thread;
 
 pub fn cut(order: &CutOrder) -> Result<(), Stop> {
-    order.notes.iter().for_each(|note| tell(note));
-    refuse_window(order.window)?;
-    refuse_output(order)?;
-    let mutes = all_mutes(order)?;
+    refuse_window(order.period.window())?;
+    refuse_outputs(order)?;
+    let (wanted, warnings) = muting::read(&order.whose)?;
     let mut progress = Progress::new(order.reading.progress);
-    let dump = order.reading.source.read(&mut progress)?;
+    let recording = order.reading.read(&mut progress)?;
     progress.stage("cutting", None);
-    progress.at(dump.len() as u64);
-    let (before, clip) = cut_and_count(order, &dump, &mutes)?;
-    let after = write_and_count(order, &clip, &mut progress)?;
+    progress.at(recording.octets.len() as u64);
+    let done = Cut::make(order, &wanted, &recording)?;
+    let (draft, after) = draft_and_count(order, &done.clip, &mut progress)?;
     progress.clear();
-    let outcome = Outcome {
-        clip: &order.target.name().display().to_string(),
-        window: order.window,
-        mutes: &mutes,
-        before,
-        after,
-        octets: (dump.len() as u64, clip.len() as u64),
-    };
-    if !order.quiet {
-        tell(&outcome.report());
-    }
-    outcome.warnings().iter().for_each(|warning| tell(&format!("WARNING: {warning}")));
-    Ok(())
+    let counted = Counted { done: &done, peers: after.by_as(), after };
+    finish(order, &recording, &counted, warnings, draft)
 }
 
 /// Asks the library, with no dump yet: no file need be read for an order that cannot be met.
@@ -47,57 +40,215 @@ fn refuse_window(window: Window) -> Result<(), Stop> {
     })
 }
 
-fn refuse_output(order: &CutOrder) -> Result<(), Stop> {
-    let mut inputs = vec![order.reading.source.metadata()?];
-    for file in &order.mute_files {
-        inputs.push(file.metadata().map_err(|error| Stop::reading(file, &error))?);
+fn refuse_outputs(order: &CutOrder) -> Result<(), Stop> {
+    let mut inputs = order.reading.metadata()?;
+    for file in muting::files(&order.whose) {
+        inputs.push(file.metadata()?);
     }
-    order.target.refuse_early(&inputs)
+    if let Some(target) = &order.target {
+        target.refuse_early(&inputs)?;
+        target.refuse_terminal()?;
+    }
+    if let Some(report) = &order.report {
+        report.refuse_early(&inputs)?;
+    }
+    match (&order.target, &order.report) {
+        (Some(target), Some(report)) if target.is_also(report) => {
+            Err(Stop::writing(report.name(), &"it is OUT too"))
+        }
+        _ => Ok(()),
+    }
 }
 
-/// Each number once.
-fn all_mutes(order: &CutOrder) -> Result<Vec<u32>, Stop> {
-    let mut mutes = order.mutes.clone();
-    for file in &order.mute_files {
-        mutes.extend(mutes::read_file(file)?);
-    }
-    mutes.sort_unstable();
-    mutes.dedup();
-    Ok(mutes)
+/// A cut in memory, with what stood in the dump.
+struct Cut {
+    muting: Muting,
+    before: Tally,
+    peers: BTreeMap<u32, Of>,
+    clip: Vec<u8>,
 }
 
-/// Where memory is short, the library's own buffer would end the program without words.
-fn refuse_size(size: usize) -> Result<(), Stop> {
-    let mut room = Vec::<u8>::new();
-    let got = room.try_reserve_exact(size);
-    // Else the compiler may leave out what nobody uses.
-    black_box(&room);
-    got.map_err(|error| {
-        Stop::Trouble(format!("a clip may need as much memory as its dump, {size} octets: {error}"))
+impl Cut {
+    fn make(order: &CutOrder, wanted: &Wanted, recording: &Recording) -> Result<Cut, Stop> {
+        let size = recording.octets.len();
+        let room = memory::zeros(size).map_err(|unread| {
+            Stop::Trouble(format!("a clip may need as much memory as its dump: {unread}"))
+        })?;
+        match wanted.at_once() {
+            Some(muting) => Cut::beside(order, muting, recording, room),
+            None => Cut::behind(order, wanted, recording, room),
+        }
+    }
+
+    /// Counts while the library cuts.
+    fn beside(
+        order: &CutOrder,
+        muting: Muting,
+        recording: &Recording,
+        room: Vec<u8>,
+    ) -> Result<Cut, Stop> {
+        let (before, clip) = thread::scope(|scope| {
+            let counting = scope.spawn(|| Tally::of(&recording.octets));
+            let clip = cut_into(room, order, &muting, recording);
+            (counting.join().expect("counting does not panic"), clip)
+        });
+        Ok(Cut { muting, peers: before.by_as(), before, clip: clip? })
+    }
+
+    /// Counts first: the peers of the dump decide who goes.
+    fn behind(
+        order: &CutOrder,
+        wanted: &Wanted,
+        recording: &Recording,
+        room: Vec<u8>,
+    ) -> Result<Cut, Stop> {
+        let before = Tally::of(&recording.octets);
+        if let Some(refusal) = before.refusal {
+            return Err(refused(recording, refusal.fault));
+        }
+        let peers = before.by_as();
+        let muting = wanted.resolve(&peers, order.is_forced).map_err(Stop::Refused)?;
+        let clip = cut_into(room, order, &muting, recording)?;
+        Ok(Cut { muting, peers, before, clip })
+    }
+}
+
+fn cut_into(
+    mut room: Vec<u8>,
+    order: &CutOrder,
+    muting: &Muting,
+    recording: &Recording,
+) -> Result<Vec<u8>, Stop> {
+    let window = order.period.window();
+    let cut = dagsumilat::cut_into(&recording.octets, window, &muting.numbers, &mut room);
+    room.truncate(cut.map_err(|refusal| refused(recording, refusal.fault))?);
+    Ok(room)
+}
+
+fn refused(recording: &Recording, fault: Fault) -> Stop {
+    Stop::Refused(advice::dump_refused(recording, fault))
+}
+
+/// What is written has no name yet: whoever counts may still say no.
+fn draft_and_count<'a>(
+    order: &'a CutOrder,
+    clip: &'a [u8],
+    progress: &mut Progress,
+) -> Result<(Option<Draft<'a>>, Tally), Stop> {
+    let target = order.target.as_ref().filter(|_| !order.is_dry);
+    thread::scope(|scope| {
+        let counting = scope.spawn(|| Tally::of(clip));
+        let draft = target.map(|target| target.draft(clip, progress)).transpose();
+        let after = counting.join().expect("counting does not panic");
+        draft.map(|draft| (draft, after))
     })
 }
 
-fn cut_and_count(order: &CutOrder, dump: &[u8], mutes: &[u32]) -> Result<(Tally, Vec<u8>), Stop> {
-    refuse_size(dump.len())?;
-    let (before, clip) = thread::scope(|scope| {
-        let counting = scope.spawn(|| Tally::of(dump));
-        let clip = dagsumilat::cut(dump, order.window, mutes);
-        (counting.join().expect("counting does not panic"), clip)
-    });
-    match clip {
-        Ok(clip) => Ok((before, clip)),
-        Err(refusal) => {
-            let name = order.reading.source.name().display().to_string();
-            Err(Stop::Refused(advice::dump_refused(&name, dump, refusal.fault)))
+/// A cut, and what stands in the clip.
+struct Counted<'a> {
+    done: &'a Cut,
+    after: Tally,
+    peers: BTreeMap<u32, Of>,
+}
+
+impl Counted<'_> {
+    fn warnings(&self, order: &CutOrder) -> Vec<Warning> {
+        let judged = Judged {
+            period: order.period,
+            muting: &self.done.muting,
+            before: &self.done.before,
+            after: &self.after,
+            peers_before: &self.done.peers,
+            peers_after: &self.peers,
+            is_verbose: order.is_verbose,
+        };
+        judged.warnings()
+    }
+
+    /// The library has left out all muted numbers; that they are all who should go is the shell's
+    /// word, so it is looked at once more.
+    fn refuse_strangers(&self) -> Result<(), Stop> {
+        let Some(agreed) = &self.done.muting.agreed else {
+            return Ok(());
+        };
+        match self.peers.keys().find(|number| agreed.binary_search(number).is_err()) {
+            None => Ok(()),
+            Some(number) => Err(Stop::Trouble(format!(
+                "nothing is written: AS{number} has not agreed and is in the clip; please report this"
+            ))),
         }
     }
 }
 
-fn write_and_count(order: &CutOrder, clip: &[u8], progress: &mut Progress) -> Result<Tally, Stop> {
-    thread::scope(|scope| {
-        let counting = scope.spawn(|| Tally::of(clip));
-        let written = order.target.write(clip, progress);
-        let after = counting.join().expect("counting does not panic");
-        written.map(|()| after)
+/// Judges the cut, then gives the files their names: first the clip, then its report.
+fn finish(
+    order: &CutOrder,
+    recording: &Recording,
+    counted: &Counted,
+    mut warnings: Vec<Warning>,
+    draft: Option<Draft>,
+) -> Result<(), Stop> {
+    counted.refuse_strangers()?;
+    let doubts = order.doubts.iter().cloned();
+    warnings.extend(doubts.map(|words| Warning { is_serious: true, words }));
+    warnings.extend(counted.warnings(order));
+    // The sort keeps the order of those that are alike.
+    warnings.sort_by_key(|warning| warning.is_serious);
+    let name = clip_name(order);
+    let outcome = Outcome {
+        clip: &name,
+        period: order.period,
+        muting: &counted.done.muting,
+        before: &counted.done.before,
+        after: &counted.after,
+        peers_before: &counted.done.peers,
+        peers_after: &counted.peers,
+        octets: (recording.octets.len() as u64, counted.done.clip.len() as u64),
+        is_brief: order.is_brief,
+    };
+    let refused = order.is_strict && !warnings.is_empty();
+    if !refused && !order.is_dry {
+        let clip = &counted.done.clip[..];
+        let evidence = Evidence { order, recording, clip, outcome: &outcome, warnings: &warnings };
+        place(order.report.as_ref(), &evidence, draft)?;
+    }
+    tell_all(order, &outcome, &warnings);
+    match refused {
+        true => Err(Stop::Refused(format!(
+            "--strict: nothing is written, for {} warning(s)",
+            warnings.len()
+        ))),
+        false => Ok(()),
+    }
+}
+
+fn clip_name(order: &CutOrder) -> String {
+    let name = order.target.as_ref().map_or_else(|| "the clip".to_string(), Target::shown);
+    match order.is_dry {
+        true => format!("{name} (dry run, nothing is written)"),
+        false => name,
+    }
+}
+
+/// The report is whole before the clip has its name.
+fn place(report: Option<&Target>, evidence: &Evidence, draft: Option<Draft>) -> Result<(), Stop> {
+    let text = report.map(|_| evidence.text()).unwrap_or_default();
+    let quiet = &mut Progress::new(false);
+    let report = report.map(|target| target.draft(text.as_bytes(), quiet)).transpose()?;
+    draft.map_or(Ok(()), Draft::place)?;
+    report.map_or(Ok(()), |report| {
+        report.place().map_err(|stop| stop.after("the clip is written, its report is not"))
     })
+}
+
+fn tell_all(order: &CutOrder, outcome: &Outcome, warnings: &[Warning]) {
+    if !order.is_quiet {
+        tell(&outcome.report());
+    }
+    let (minor, serious) = warnings.split_at(warnings.partition_point(|it| !it.is_serious));
+    minor.iter().for_each(|warning| tell(&format!("warning: {}", warning.words)));
+    if !serious.is_empty() {
+        stop::apart();
+    }
+    serious.iter().for_each(|warning| tell(&format!("WARNING: {}", warning.words)));
 }

@@ -1,15 +1,160 @@
 //! Reading a whole dump: the library wants its octets in one piece.
 
 use crate::archive::Archive;
+use crate::memory::{self, Unread};
 use crate::progress::Progress;
 use crate::stop::Stop;
+use crate::{digest, escaped, system};
 use std::ffi::OsStr;
 use std::fs::{File, Metadata};
 use std::io::{self, Read};
 use std::os::fd::AsFd;
 use std::path::{Path, PathBuf};
 
-const CHUNK: u64 = 16 << 20;
+/// As many octets are read if no other limit is given.
+pub const LIMIT: u64 = 8_000_000_000;
+
+/// FILEs to be read in order as one recording, with a bar for a large one or without.
+#[derive(Clone, Debug, PartialEq, Eq)]
+pub struct Reading {
+    pub sources: Vec<Source>,
+    pub progress: bool,
+    /// More octets than this are not read.
+    pub limit: u64,
+    /// Whether the digests of the files are wanted.
+    pub digests: bool,
+}
+
+/// A FILE, and where its octets are in the recording.
+#[derive(Clone, Debug)]
+pub struct Part {
+    /// As it is shown.
+    pub name: String,
+    pub start: usize,
+    pub end: usize,
+    /// Of the file as it stands, packed or not.
+    pub size: u64,
+    pub archive: Option<Archive>,
+    pub sha256: Option<String>,
+}
+
+/// Octets of FILEs laid end to end, unpacked.
+pub struct Recording {
+    pub octets: Vec<u8>,
+    pub parts: Vec<Part>,
+}
+
+impl Reading {
+    /// Each FILE is read to where its octets stay: a recording may be half the machine's memory.
+    pub fn read(&self, progress: &mut Progress) -> Result<Recording, Stop> {
+        let mut recording = Recording { octets: Vec::new(), parts: Vec::new() };
+        for source in &self.sources {
+            let part = self.append(source, &mut recording.octets, progress);
+            let part = part.map_err(|words| Stop::reading(source.name(), &words))?;
+            recording.parts.push(part);
+        }
+        Ok(recording)
+    }
+
+    /// What the system knows of the files.
+    pub fn metadata(&self) -> Result<Vec<Metadata>, Stop> {
+        self.sources.iter().map(Source::metadata).collect()
+    }
+
+    fn append(
+        &self,
+        source: &Source,
+        octets: &mut Vec<u8>,
+        progress: &mut Progress,
+    ) -> Result<Part, String> {
+        let start = octets.len();
+        let mut input = Input::open(source).map_err(|error| error.to_string())?;
+        let (size, archive, sha256);
+        if Archive::perhaps(source.name(), &input.head).is_some() {
+            let mut packed = Vec::new();
+            input.read(&mut packed, self.limit, progress).map_err(|unread| unread.to_string())?;
+            archive = Archive::of(source.name(), &packed);
+            (size, sha256) = (packed.len(), self.digest(&packed));
+            unpacked(archive, source.name(), packed, (octets, self.limit), progress)?;
+        } else {
+            input.read(octets, self.limit, progress).map_err(|unread| unread.to_string())?;
+            archive = None;
+            (size, sha256) = (octets.len() - start, self.digest(&octets[start..]));
+        }
+        let (end, size, name) = (octets.len(), size as u64, source.shown());
+        Ok(Part { name, start, end, size, archive, sha256 })
+    }
+
+    fn digest(&self, octets: &[u8]) -> Option<String> {
+        self.digests.then(|| digest::sha256(octets)).flatten()
+    }
+}
+
+/// Appends what is left of a FILE that looked packed when it is unpacked, if it is packed at all.
+fn unpacked(
+    archive: Option<Archive>,
+    name: &Path,
+    packed: Vec<u8>,
+    (octets, limit): (&mut Vec<u8>, u64),
+    progress: &mut Progress,
+) -> Result<(), String> {
+    match archive {
+        Some(archive) => archive.unpack(name, &packed, (octets, limit), progress),
+        None if octets.is_empty() => {
+            *octets = packed;
+            Ok(())
+        }
+        None => memory::append(octets, &mut &packed[..], limit, |_| {})
+            .map_err(|unread| unread.to_string()),
+    }
+}
+
+/// A FILE that is open, of which the first octets were looked at.
+struct Input {
+    file: File,
+    head: Vec<u8>,
+    /// Of all of it, where that is known.
+    size: Option<u64>,
+}
+
+impl Input {
+    fn open(source: &Source) -> io::Result<Input> {
+        let mut file = source.open()?;
+        let metadata = file.metadata()?;
+        let mut head = Vec::with_capacity(64);
+        file.by_ref().take(Archive::HEAD as u64).read_to_end(&mut head)?;
+        Ok(Input { file, head, size: metadata.is_file().then_some(metadata.len()) })
+    }
+
+    /// Appends all of it.
+    fn read(
+        &mut self,
+        octets: &mut Vec<u8>,
+        limit: u64,
+        progress: &mut Progress,
+    ) -> Result<(), Unread> {
+        progress.stage("reading", self.size);
+        let start = octets.len();
+        if let Some(size) = self.size {
+            if size > limit.saturating_sub(start as u64) {
+                return Err(Unread::Limit(limit));
+            }
+            memory::expect(octets, size)?;
+        }
+        let mut all = (&self.head[..]).chain(&self.file);
+        memory::append(octets, &mut all, limit, |there| progress.at((there - start) as u64))
+    }
+}
+
+impl Recording {
+    /// The FILE, or how many they are.
+    pub fn name(&self) -> String {
+        match &self.parts[..] {
+            [part] => part.name.clone(),
+            parts => format!("{} files laid end to end", parts.len()),
+        }
+    }
+}
 
 /// Where a dump comes from.
 #[derive(Clone, Debug, PartialEq, Eq)]
@@ -33,9 +178,16 @@ impl Source {
         }
     }
 
-    fn open(&self) -> io::Result<File> {
+    /// The name for a message.
+    pub fn shown(&self) -> String {
+        escaped::path(self.name())
+    }
+
+    pub fn open(&self) -> io::Result<File> {
         match self {
             Source::File(path) => File::open(path),
+            // Rust opens something empty in its place.
+            Source::Standard if !system::was_open(0) => Err(io::Error::other("it is closed")),
             Source::Standard => Ok(File::from(io::stdin().as_fd().try_clone_to_owned()?)),
         }
     }
@@ -47,28 +199,5 @@ impl Source {
             Source::Standard => self.open().and_then(|file| file.metadata()),
         };
         found.map_err(|error| Stop::reading(self.name(), &error))
-    }
-
-    /// The octets of the dump, unpacked.
-    pub fn read(&self, progress: &mut Progress) -> Result<Vec<u8>, Stop> {
-        let octets = self.octets(progress).map_err(|error| Stop::reading(self.name(), &error))?;
-        match Archive::of(self.name(), &octets) {
-            Some(archive) => archive.unpack(self.name(), &octets, progress),
-            None => Ok(octets),
-        }
-    }
-
-    fn octets(&self, progress: &mut Progress) -> io::Result<Vec<u8>> {
-        let mut file = self.open()?;
-        let metadata = file.metadata()?;
-        let size = metadata.is_file().then_some(metadata.len());
-        progress.stage("reading", size);
-        let mut octets = Vec::new();
-        octets.try_reserve_exact(usize::try_from(size.unwrap_or(0)).unwrap_or(usize::MAX))?;
-        dagsumilat::in_large_pages(octets.spare_capacity_mut());
-        while file.by_ref().take(CHUNK).read_to_end(&mut octets)? > 0 {
-            progress.at(octets.len() as u64);
-        }
-        Ok(octets)
     }
 }

@@ -2,14 +2,19 @@
 
 const SECOND: u64 = 1_000_000;
 const DAY: u64 = 86_400;
-/// Whole numbers below this are the first day and a bit of 1970; who writes one may mean seconds.
-const SUSPICIOUS: u64 = 100_000_000_000;
+/// As microseconds, whole numbers below this are the first day and a bit of 1970; as seconds, they
+/// are all times up to the year 5138.
+const MAY_BE_SECONDS: u64 = 100_000_000_000;
+/// As microseconds, whole numbers below this are before March 1973, when there was no BGP; as
+/// milliseconds, they too are all times up to the year 5138.
+const MAY_BE_MILLISECONDS: u64 = 100_000_000_000_000;
 
 /// Microseconds since 1970 of a TIME: a whole number is microseconds, a number with a point is
-/// seconds, anything else has to be RFC 3339 in UTC.
+/// seconds, anything else has to be RFC 3339.
 pub fn parse(text: &str) -> Result<u64, String> {
     if is_digits(text) {
-        return text.parse().map_err(|_| "does not fit in 64 bits".to_string());
+        let time = text.parse().map_err(|_| "does not fit in 64 bits".to_string())?;
+        return refuse_seconds(text, time);
     }
     match text.split_once('.') {
         Some((whole, part)) if is_digits(whole) && part.bytes().all(|b| b.is_ascii_digit()) => {
@@ -20,10 +25,40 @@ pub fn parse(text: &str) -> Result<u64, String> {
     }
 }
 
-/// Whether a TIME was taken as microseconds though its writer may have meant seconds. 0 is the same
-/// moment either way.
-pub fn may_mean_seconds(text: &str) -> bool {
-    is_digits(text) && text.parse().is_ok_and(|time: u64| (1..SUSPICIOUS).contains(&time))
+/// Who writes a small whole number means seconds, as other programs print them: taken as
+/// microseconds it would open the window to all of the dump. 0 is the same moment either way.
+fn refuse_seconds(text: &str, time: u64) -> Result<u64, String> {
+    if !(1..MAY_BE_SECONDS).contains(&time) {
+        return Ok(time);
+    }
+    let (whole, part) = (time / SECOND, time % SECOND);
+    Err(format!(
+        "can be read in two ways: as seconds it is {}, written {text}.0; as microseconds it is {}, \
+         written {whole}.{part:06}",
+        shown(time * SECOND),
+        shown(time)
+    ))
+}
+
+/// Microseconds of a length of time in seconds, with a fraction or without; it is not none.
+pub fn seconds(text: &str) -> Result<u64, String> {
+    let (whole, part) = text.split_once('.').unwrap_or((text, "0"));
+    if !is_digits(whole) {
+        return Err("is no number of seconds; write one as 90 or 0.5".to_string());
+    }
+    let seconds = whole.parse().map_err(|_| "does not fit in 64 bits".to_string())?;
+    match join(seconds, fraction(part)?)? {
+        0 => Err("is no time at all".to_string()),
+        micros => Ok(micros),
+    }
+}
+
+/// What is doubtful about a TIME that was taken: its writer may have meant milliseconds.
+pub fn doubt(text: &str) -> Option<String> {
+    let number = text.parse().ok().filter(|_| is_digits(text));
+    let time: u64 = number.filter(|time| (1..MAY_BE_MILLISECONDS).contains(time))?;
+    let (micros, millis) = (shown(time), shown(time * 1_000));
+    Some(format!("{text} is taken as microseconds, {micros}; as milliseconds it is {millis}"))
 }
 
 fn is_digits(text: &str) -> bool {
@@ -47,7 +82,7 @@ fn fraction(digits: &str) -> Result<u64, String> {
     Ok(number * 10_u64.pow(6 - digits.len() as u32))
 }
 
-/// YYYY-MM-DD, then T or a space, HH:MM:SS, a fraction or none, and Z or +00:00.
+/// YYYY-MM-DD, then T or a space, HH:MM:SS, a fraction or none, and Z or an offset as +01:00.
 fn date_and_time(text: &str) -> Result<u64, String> {
     const FORM: &str = "is no time; write one as 2026-03-01T12:00:00.011Z, as microseconds \
                         (1772366400011000) or as seconds with a point (1772366400.011)";
@@ -56,9 +91,12 @@ fn date_and_time(text: &str) -> Result<u64, String> {
     }
     let days = date(&text[..10]).ok_or(FORM)??;
     let seconds = clock(&text[11..19]).ok_or(FORM)??;
-    let micros = behind_the_clock(&text[19..])?;
-    join(days * DAY + seconds, micros)
+    let (micros, offset) = behind_the_clock(&text[19..])?;
+    let seconds = (days * DAY + seconds).checked_add_signed(-offset);
+    join(seconds.ok_or(BEFORE_1970)?, micros)
 }
+
+const BEFORE_1970: &str = "is before 1970; MRT has no such times";
 
 /// The numbers between separators, each of so many digits; none if the text has another form.
 fn numbers<const N: usize>(text: &str, separator: char, sizes: [usize; N]) -> Option<[u64; N]> {
@@ -80,7 +118,7 @@ fn numbers<const N: usize>(text: &str, separator: char, sizes: [usize; N]) -> Op
 fn date(text: &str) -> Option<Result<u64, String>> {
     let [year, month, day] = numbers(text, '-', [4, 2, 2])?;
     Some(if year < 1970 {
-        Err("is before 1970; MRT has no such times".to_string())
+        Err(BEFORE_1970.to_string())
     } else if !(1..=12).contains(&month) {
         Err(format!("has month {month}"))
     } else if day < 1 || day > days_in_month(year, month) {
@@ -106,19 +144,29 @@ fn clock(text: &str) -> Option<Result<u64, String>> {
     })
 }
 
-/// Microseconds of the fraction, if there is one; the offset has to be that of UTC.
-fn behind_the_clock(text: &str) -> Result<u64, String> {
+/// Microseconds of the fraction, if there is one, and the seconds that the clock is ahead of UTC.
+fn behind_the_clock(text: &str) -> Result<(u64, i64), String> {
     let zone_at = text.find(|c: char| c != '.' && !c.is_ascii_digit()).unwrap_or(text.len());
     let (digits, zone) = text.split_at(zone_at);
-    match zone {
-        "Z" | "z" | "+00:00" => {}
-        "" => return Err("does not say that it is UTC: put Z behind it".to_string()),
-        _ => return Err(format!("ends in '{zone}'; only UTC is taken, Z or +00:00")),
-    }
+    let offset = offset(zone)?;
     match digits.strip_prefix('.') {
-        Some(digits) => fraction(digits),
-        None if digits.is_empty() => Ok(0),
+        Some(digits) => Ok((fraction(digits)?, offset)),
+        None if digits.is_empty() => Ok((0, offset)),
         None => Err("has more than 2 digits of seconds".to_string()),
+    }
+}
+
+fn offset(zone: &str) -> Result<i64, String> {
+    let (sign, clock) = match zone.split_at_checked(1) {
+        None => return Err("does not say that it is UTC: put Z behind it".to_string()),
+        Some(("Z" | "z", "")) => return Ok(0),
+        Some(("+", clock)) => (1, clock),
+        Some(("-", clock)) => (-1, clock),
+        Some(_) => (0, ""),
+    };
+    match numbers(clock, ':', [2, 2]) {
+        Some([hours @ ..24, minutes @ ..60]) => Ok(sign * (hours * 3600 + minutes * 60) as i64),
+        _ => Err(format!("ends in '{zone}'; write Z for UTC, or an offset as +01:00")),
     }
 }
 
@@ -174,6 +222,8 @@ mod tests {
     #[test]
     fn whole_numbers_are_microseconds() {
         assert_eq!(parse("0"), Ok(0));
+        assert_eq!(parse("00"), Ok(0));
+        assert_eq!(parse("100000000000"), Ok(100_000_000_000));
         assert_eq!(parse("1772366400011000"), Ok(NOON + 11_000));
         assert_eq!(parse("18446744073709551615"), Ok(u64::MAX));
         assert_refused("18446744073709551616", "64 bits");
@@ -198,17 +248,59 @@ mod tests {
     }
 
     #[test]
-    fn small_whole_numbers_are_doubtful() {
-        assert!(may_mean_seconds("1772366400"));
-        assert!(may_mean_seconds("1"));
-        assert!(may_mean_seconds("99999999999"));
-        for text in ["0", "100000000000", "1772366400.0", "2026-03-01T12:00:00Z"] {
-            assert!(!may_mean_seconds(text), "{text}");
+    fn small_whole_numbers_are_refused_with_both_readings() {
+        assert_refused(
+            "1794708900",
+            "as seconds it is 2026-11-15T02:15:00.000000Z, written 1794708900.0;",
+        );
+        assert_refused(
+            "1794708900",
+            "as microseconds it is 1970-01-01T00:29:54.708900Z, written 1794.708900",
+        );
+        assert_eq!(parse("1794708900.0"), Ok(1_794_708_900_000_000));
+        assert_eq!(parse("1794.708900"), Ok(1_794_708_900));
+        for text in ["1", "01", "99999999999"] {
+            assert_refused(text, "two ways");
         }
     }
 
     #[test]
-    fn dates_in_utc() {
+    fn lengths_of_time() {
+        assert_eq!(seconds("90"), Ok(90_000_000));
+        assert_eq!(seconds("0.5"), Ok(500_000));
+        for text in ["0", "0.0", "", "-1", "x", "1.", ".5", "1.1234567", "99999999999999999999"] {
+            assert!(seconds(text).is_err(), "{text}");
+        }
+    }
+
+    #[test]
+    fn milliseconds_are_doubted() {
+        let doubt = doubt("1772366400011").unwrap();
+        assert!(doubt.contains("microseconds, 1970-01-21T12:19:26.400011Z"), "{doubt}");
+        assert!(doubt.ends_with("milliseconds it is 2026-03-01T12:00:00.011000Z"), "{doubt}");
+        for text in ["0", "100000000000000", "1772366400.0", "2026-03-01T12:00:00Z"] {
+            assert_eq!(super::doubt(text), None, "{text}");
+        }
+    }
+
+    #[test]
+    fn offsets_are_taken() {
+        for text in [
+            "2026-03-01T13:00:00+01:00",
+            "2026-03-01T17:30:00+05:30",
+            "2026-03-01T00:00:00-12:00",
+            "2026-03-02T11:59:00+23:59",
+            "2026-03-01T12:00:00-00:00",
+        ] {
+            assert_eq!(parse(text), Ok(NOON), "{text}");
+        }
+        assert_eq!(parse("2026-03-01T13:00:00.011+01:00"), Ok(NOON + 11_000));
+        assert_eq!(parse("1970-01-01T01:00:00+01:00"), Ok(0));
+        assert_refused("1970-01-01T00:59:59+01:00", "before 1970");
+    }
+
+    #[test]
+    fn dates_and_times() {
         for text in [
             "2026-03-01T12:00:00Z",
             "2026-03-01t12:00:00z",
@@ -255,9 +347,11 @@ mod tests {
     #[test]
     fn other_forms_and_other_zones() {
         assert_refused("2026-03-01T12:00:00", "put Z behind it");
-        for zone in ["+01:00", "-00:00", "+0000", "CET", "Z ", "ZZ", "+00:00Z"] {
-            assert_refused(&format!("2026-03-01T12:00:00{zone}"), "only UTC");
+        for zone in ["+0000", "+01", "+24:00", "+01:60", "+1:00", "CET", "Z ", "ZZ", "+00:00Z", "é"]
+        {
+            assert_refused(&format!("2026-03-01T12:00:00{zone}"), "");
         }
+        assert_refused("2026-03-01T12:00:00+0100", "an offset as +01:00");
         for text in [
             "2026-03-01",
             "2026-03-01T12:00Z",
@@ -276,7 +370,7 @@ mod tests {
 
     #[test]
     fn what_is_shown_reads_as_the_same_time() {
-        let mut time = 1;
+        let mut time = MAY_BE_SECONDS;
         while time < 253_402_300_800_000_000 {
             assert_eq!(parse(&shown(time)), Ok(time));
             time = time * 17 / 16 + 999_983;

@@ -1,137 +1,140 @@
-//! What a cut did, and who is still to be seen in the clip.
+//! What a cut did, and who is still to be seen in the clip, for a person.
 
-use crate::moment;
-use crate::tally::{Count, Tally, KINDS};
-use dagsumilat::Window;
+use crate::muting::{Muting, Resolved};
+use crate::number::grouped;
+use crate::period::Period;
+use crate::tally::{Count, Of, Tally, KINDS};
+use std::collections::BTreeMap;
 use std::fmt::Write;
 
-/// More peer AS numbers than this are only counted.
-const SHOWN: usize = 20;
+/// As many lines of a list are shown if it is to be brief.
+const BRIEF: usize = 20;
 
-/// Stands in 2-octet fields for an AS that needs 4 (RFC 6793).
-const AS_TRANS: u32 = 23_456;
+/// The last words of a report: a mute is by peer.
+pub const PATHS: &str = "Muted AS numbers may still stand inside other peers' paths.";
+
+/// A row of the report: what is counted, before and after.
+pub type Row = (&'static str, u64, u64);
 
 /// A dump before and after its cut.
 pub struct Outcome<'a> {
     pub clip: &'a str,
-    pub window: Window,
-    /// Each number once.
-    pub mutes: &'a [u32],
-    pub before: Tally,
-    pub after: Tally,
+    pub period: Period,
+    pub muting: &'a Muting,
+    pub before: &'a Tally,
+    pub after: &'a Tally,
+    pub peers_before: &'a BTreeMap<u32, Of>,
+    pub peers_after: &'a BTreeMap<u32, Of>,
     /// Octets before and after.
     pub octets: (u64, u64),
+    pub is_brief: bool,
 }
 
 impl Outcome<'_> {
-    /// Kept and gone, then the peer AS numbers that are left.
+    /// Kept and gone, who was muted, who is left.
     pub fn report(&self) -> String {
-        let Window { from, to } = self.window;
         let (before, after) = (self.before.records(), self.after.records());
-        let mut text = format!(
-            "{}: {after} of {before} records kept, from {} up to but not including {}\n",
-            self.clip,
-            moment::shown(from),
-            moment::shown(to)
-        );
+        let (clip, period) = (self.clip, self.period.shown());
+        let mut text = format!("{clip}: {after} of {before} records kept, {period}\n");
         text.push_str(&self.kept_and_gone());
-        text.push_str(&self.left());
+        text.push_str(&self.muted());
+        text.push_str(&self.without_entries());
+        let left = self.peers_after.iter();
+        let _ = writeln!(text, "  peer AS numbers still in the clip: {}", left.len());
+        text.push_str(&self.lines(left.map(as_line)));
+        if !self.muting.numbers.is_empty() {
+            let _ = writeln!(text, "  {PATHS}");
+        }
         text.pop();
         text
     }
 
-    fn kept_and_gone(&self) -> String {
-        let (before, after) = (&self.before, &self.after);
+    /// What is counted, in the order in which it is shown.
+    pub fn rows(&self) -> Vec<Row> {
+        let (before, after) = (self.before, self.after);
         let kinds = KINDS.iter().zip(before.kinds).zip(after.kinds);
-        let mut rows: Vec<_> = kinds.map(|(((_, name), old), new)| (*name, old, new)).collect();
+        let mut rows: Vec<Row> = kinds.map(|(((_, name), old), new)| (*name, old, new)).collect();
         rows.push(("RIB entries", before.entries, after.entries));
         rows.push(("peers in tables", before.peers, after.peers));
         rows.push(("octets", self.octets.0, self.octets.1));
+        rows
+    }
+
+    fn kept_and_gone(&self) -> String {
         let mut text = format!("  {:<16}{:>14}{:>14}\n", "", "kept", "gone");
-        for (name, old, new) in rows {
+        for (name, old, new) in self.rows() {
             let _ = writeln!(text, "  {name:<16}{new:>14}{:>14}", old - new);
         }
-        let (listed, nowhere) = (self.mutes.len(), self.nowhere().count());
+        text
+    }
+
+    /// The muted, by rising number, as they stood in the dump.
+    pub fn gone(&self) -> impl Iterator<Item = (&u32, &Of)> {
+        self.peers_before
+            .iter()
+            .filter(|(number, _)| self.muting.numbers.binary_search(number).is_ok())
+    }
+
+    fn muted(&self) -> String {
+        let Muting { numbers, addresses, agreed } = self.muting;
+        let mut text = String::new();
+        if let Some(agreed) = agreed {
+            let here = agreed.iter().filter(|it| self.peers_before.contains_key(it)).count();
+            let _ = writeln!(
+                text,
+                "  AS numbers that agreed: {}, in the dump: {here}; every other peer AS of the dump \
+                 is muted: {}",
+                agreed.len(),
+                numbers.len()
+            );
+            text.push_str(&self.lines(self.gone().map(as_line)));
+            return text;
+        }
+        if !addresses.is_empty() {
+            let _ = writeln!(text, "  addresses to mute: {}", addresses.len());
+            text.push_str(&self.lines(addresses.iter().map(address_line)));
+        }
+        let nowhere = numbers.len() - self.gone().count();
+        let listed = numbers.len();
         let _ = writeln!(text, "  AS numbers to mute: {listed}, in no table or record: {nowhere}");
         text
     }
 
-    /// Muted numbers that hit nobody.
-    fn nowhere(&self) -> impl Iterator<Item = u32> + '_ {
-        self.mutes.iter().copied().filter(|number| !self.before.by_as.contains_key(number))
+    /// They lose nothing by a mute, and show whatever their prefix shows.
+    fn without_entries(&self) -> String {
+        match self.after.empty_ribs {
+            0 => String::new(),
+            _ if self.muting.numbers.is_empty() => String::new(),
+            count => {
+                format!("  RIB records that came with no entries, and stay: {}\n", grouped(count))
+            }
+        }
     }
 
-    fn left(&self) -> String {
-        let left = self.after.sorted();
-        let mut text = format!("  peer AS numbers still in the clip: {}\n", left.len());
-        for (number, count) in left.iter().take(SHOWN) {
-            let Count { peers, entries, records } = count;
-            let _ = writeln!(
-                text,
-                "    AS{number} (peers {peers}, entries {entries}, records {records})"
-            );
-        }
-        if let Some(more) = left.len().checked_sub(SHOWN + 1) {
-            let _ = writeln!(text, "    and {} more (dagsumilat peers shows all)", more + 1);
+    /// All lines, or the first of them and how many more there are.
+    fn lines(&self, lines: impl Iterator<Item = String>) -> String {
+        let lines: Vec<String> = lines.collect();
+        let most = if self.is_brief { BRIEF } else { lines.len() };
+        let mut text: String =
+            lines.iter().take(most).map(|line| format!("    {line}\n")).collect();
+        match lines.len().saturating_sub(most) {
+            0 => {}
+            more => {
+                let _ =
+                    writeln!(text, "    and {} more (without --brief all)", grouped(more as u64));
+            }
         }
         text
     }
+}
 
-    /// Where a mute hit nobody, and where somebody muted may still be seen under another number.
-    pub fn warnings(&self) -> Vec<String> {
-        let nowhere = self.nowhere().map(|number| {
-            format!(
-                "AS{number} was to be muted and is nobody's peer AS in the dump: \
-                 a typing error would leave somebody in the clip"
-            )
-        });
-        // A long list of those must not hide the others, so they come first.
-        let mut warnings: Vec<String> = nowhere.collect();
-        warnings.extend(self.mutes.iter().filter_map(|number| self.shortened(*number)));
-        warnings.extend(self.stand_ins());
-        warnings.extend(self.emptied());
-        warnings
-    }
+fn as_line((number, of): (&u32, &Of)) -> String {
+    let Count { peers, entries, records, .. } = of.count;
+    format!("AS{number} (peers {peers}, entries {entries}, records {records})")
+}
 
-    /// A slip in a date leaves a clip that looks well.
-    fn emptied(&self) -> Option<String> {
-        let (first, last) = self.before.span.filter(|_| self.after.span.is_none())?;
-        let (first, last) = (moment::shown(first), moment::shown(last));
-        Some(format!(
-            "no record but peer tables is left; the others of the dump are from {first} to {last}"
-        ))
-    }
-
-    /// Some producers write a 4-octet AS cut to 16 bits in records of 2 octets. A muted number that
-    /// has 16 bits anyway is never left.
-    fn shortened(&self, number: u32) -> Option<String> {
-        let short = number & 0xffff;
-        self.after.by_as.contains_key(&short).then(|| {
-            format!(
-                "AS{short} is still in the clip, and is what is left of muted AS{number} in \
-                 16 bits: some producers write that; see whose records they are"
-            )
-        })
-    }
-
-    fn stand_ins(&self) -> Vec<String> {
-        let left = |number| self.after.by_as.contains_key(&number);
-        let mut warnings = Vec::new();
-        if left(0) {
-            warnings.push(
-                "AS0 is still in the clip: often the collector itself, or a peer whose AS was not \
-                 known yet"
-                    .to_string(),
-            );
-        }
-        if left(AS_TRANS) {
-            let wide = self.mutes.iter().any(|number| *number > 0xffff);
-            let who = if wide { "a muted one too" } else { "anybody with a 4-octet AS" };
-            warnings.push(format!(
-                "AS{AS_TRANS} is still in the clip: it stands for an AS that needs 4 octets, so it \
-                 may be {who}"
-            ));
-        }
-        warnings
-    }
+fn address_line(resolved: &Resolved) -> String {
+    let numbers: Vec<String> = resolved.numbers.iter().map(|it| format!("AS{it}")).collect();
+    let who = if numbers.is_empty() { "nobody's".to_string() } else { numbers.join(", ") };
+    format!("{}: {who}", resolved.address)
 }

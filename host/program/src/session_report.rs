@@ -1,7 +1,8 @@
 //! The command that counts over many recordings, each by itself.
 
 use crate::advice;
-use crate::arguments::{Reading, ReportOrder};
+use crate::arguments::ReportOrder;
+use crate::input::Reading;
 use crate::progress::Progress;
 use crate::session_table;
 use crate::stop::Stop;
@@ -25,11 +26,10 @@ pub fn report(order: &ReportOrder) -> Result<(), Stop> {
 
 /// A recording that is refused or cannot be read adds nothing.
 fn add(total: &mut Report, reading: &Reading) -> Result<(), Stop> {
-    let dump = reading.source.read(&mut Progress::new(reading.progress))?;
-    total.add(&dump).map_err(|refusal| {
-        let name = reading.source.name().display().to_string();
-        Stop::Refused(advice::dump_refused(&name, &dump, refusal.fault))
-    })
+    let recording = reading.read(&mut Progress::new(reading.progress))?;
+    total
+        .add(&recording.octets)
+        .map_err(|refusal| Stop::Refused(advice::dump_refused(&recording, refusal.fault)))
 }
 
 /// One line for each total, and for each cell that is not zero.

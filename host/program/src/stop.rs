@@ -1,7 +1,8 @@
 //! Why a command ends before its work is done, and what is told on standard error.
 
+use crate::{escaped, system, wrap};
 use std::fmt::Display;
-use std::io::{self, ErrorKind, Write};
+use std::io::{self, ErrorKind, IsTerminal, Write};
 use std::path::Path;
 use std::process::ExitCode;
 
@@ -21,12 +22,12 @@ pub enum Stop {
 impl Stop {
     /// An error of reading `name`.
     pub fn reading(name: &Path, error: &dyn Display) -> Stop {
-        Stop::Trouble(format!("cannot read {}: {error}", name.display()))
+        Stop::Trouble(format!("cannot read {}: {error}", escaped::path(name)))
     }
 
     /// An error of writing `name`.
     pub fn writing(name: &Path, error: &dyn Display) -> Stop {
-        Stop::Trouble(format!("cannot write {}: {error}", name.display()))
+        Stop::Trouble(format!("cannot write {}: {error}", escaped::path(name)))
     }
 
     /// An error of writing text to standard output: `| head` is no trouble.
@@ -34,6 +35,14 @@ impl Stop {
         match error.kind() {
             ErrorKind::BrokenPipe => Stop::Closed,
             _ => Stop::writing(Path::new("standard output"), error),
+        }
+    }
+
+    /// The same, with what has happened before.
+    pub fn after(self, before: &str) -> Stop {
+        match self {
+            Stop::Trouble(words) => Stop::Trouble(format!("{before}: {words}")),
+            other => other,
         }
     }
 
@@ -53,7 +62,17 @@ impl Stop {
     }
 }
 
-/// Writes to standard error under the program's name. That nobody can read it stops nothing.
+/// A line without words, before what is not to be overlooked.
+pub fn apart() {
+    let _ = writeln!(io::stderr().lock());
+}
+
+/// Writes to standard error under the program's name, in lines that fit a terminal. That nobody can
+/// read it stops nothing.
 pub fn tell(words: &str) {
-    let _ = writeln!(io::stderr().lock(), "dagsumilat: {words}");
+    let text = format!("dagsumilat: {words}");
+    let mut err = io::stderr().lock();
+    let width = system::terminal_width().filter(|_| err.is_terminal());
+    let text = width.map_or(text.clone(), |width| wrap::wrapped(&text, width));
+    let _ = writeln!(err, "{text}");
 }

@@ -1,5 +1,6 @@
 //! A view name that is no text, shown so that a person sees which octets are in the way.
 
+use crate::escaped;
 use std::str;
 
 /// Of a long name, as many characters are shown before the first octet that is not text, and as
@@ -35,15 +36,9 @@ fn shown(name: &[u8], good: usize) -> String {
     format!("{earlier}\"{}{}\"{later}", before[from..].concat(), rest[..to].concat())
 }
 
-/// One piece for each character and for each octet that belongs to none. A terminal would obey
-/// control characters: they are spelled out.
+/// Marks as those around the name are spelled out.
 fn pieces(name: &[u8]) -> Vec<String> {
-    let mut pieces = Vec::new();
-    for chunk in name.utf8_chunks() {
-        pieces.extend(chunk.valid().chars().map(|letter| letter.escape_debug().to_string()));
-        pieces.extend(chunk.invalid().iter().map(|octet| format!("\\x{octet:02X}")));
-    }
-    pieces
+    escaped::pieces(name).iter().map(|piece| piece.replace('"', "\\\"")).collect()
 }
 
 #[cfg(test)]

@@ -31,6 +31,11 @@ impl Words {
         Words { rest: words.into_iter().collect(), attached: None, only_operands: false }
     }
 
+    /// The words that are left, as they were given.
+    pub fn given(&self) -> Vec<OsString> {
+        self.rest.iter().cloned().collect()
+    }
+
     /// The next option or operand. An option's value is to be taken before, by [`Words::value`].
     pub fn next(&mut self, last: &str) -> Result<Option<Word>, String> {
         match self.attached.take() {

@@ -1,12 +1,13 @@
-//! Dumps packed by gzip and bzip2.
+//! Dumps packed by gzip, bzip2, xz and zstd.
 
-use crate::dumps::{record, sample};
+use crate::dumps::{change, record, sample};
 use crate::run::{command, finish, run, run_fed, Folder, Run};
 use std::fs::File;
 use std::io::Write;
 use std::process::{Command, Stdio};
 
-const PROGRAMS: [(&str, &str); 2] = [("gzip", "gz"), ("bzip2", "bz2")];
+const PROGRAMS: [(&str, &str); 5] =
+    [("gzip", "gz"), ("bzip2", "bz2"), ("xz", "xz"), ("zstd", "zst"), ("zstd", "ZSTD")];
 
 fn pack(folder: &Folder, program: &str, octets: &[u8]) -> Vec<u8> {
     let packed = File::create(folder.path("packed")).unwrap();
@@ -56,7 +57,7 @@ fn packed_and_plain_dumps_in_one_report() {
         folder.file(&format!("dump.{extension}"), &pack(&folder, program, &sample()))
     });
     let plain = folder.file("dump.mrt", &sample());
-    let run = run(&["report", &files[0], &plain, &files[1]]).ended(0);
+    let run = run(&["report", &files[0], &plain, &files[3]]).ended(0);
     assert!(run.out_text().starts_with("records=147\nchanges=33\nbreaks=0\nchange.1.2=6\n"));
 }
 
@@ -72,7 +73,7 @@ fn parts_of_an_archive_are_joined() {
 
 #[test]
 fn a_dump_that_starts_like_an_archive_is_read() {
-    for start in [0x1f8b_0800, u32::from_be_bytes(*b"BZh9")] {
+    for start in [0x1f8b_0800, u32::from_be_bytes(*b"BZh9"), 0x28b5_2ffd] {
         let run = run_fed(&["list", "-"], &record(start, 11, 0, &[])).ended(0);
         assert!(run.out_text().ends_with("\nfault=0 place=12\n"));
     }
@@ -88,6 +89,15 @@ fn assert_nothing_written(folder: &Folder, name: &str) -> Run {
     run.ended(2).told("cannot read").told(name)
 }
 
+/// The words about a damaged archive: once, and with no word about what only this program sees.
+fn assert_damaged(run: Run, program: &str, octets: &[u8]) {
+    let run = run.told(&format!(": it is a damaged {program} archive: "));
+    let run = run.silent_about("stdin").silent_about("exit status");
+    let after = run.err.split("archive: ").nth(1).unwrap();
+    assert!(!after.contains(&format!("{program}:")), "{}", run.err);
+    assert_eq!(run.err.trim_end().lines().count(), 1, "{} of {}", run.err, octets.len());
+}
+
 #[test]
 fn damaged_archives_are_input_errors() {
     let folder = Folder::new("damaged");
@@ -98,12 +108,53 @@ fn damaged_archives_are_input_errors() {
         changed[packed.len() / 2] ^= 0x10;
         let trailing = [&packed[..], b"and more"].concat();
         let half_behind = [&packed[..], &packed[..20]].concat();
-        for octets in [half, changed, trailing, half_behind, Vec::new(), sample()] {
+        let no_dump = sample()[1..].to_vec();
+        for octets in [half, changed, trailing, half_behind, Vec::new(), no_dump] {
             let name = format!("dump.{extension}");
             folder.file(&name, &octets);
-            assert_nothing_written(&folder, &name).told(program);
+            assert_damaged(assert_nothing_written(&folder, &name), program, &octets);
         }
     }
+    folder.file("dump.gz", &pack(&folder, "gzip", &sample())[..100]);
+    let words = "dump.gz: it is a damaged gzip archive: unexpected end of file\n";
+    run(&["check", &folder.word("dump.gz")]).ended(2).told(words);
+}
+
+#[test]
+fn a_name_that_does_not_fit_the_octets() {
+    let folder = Folder::new("misnamed");
+    for (_, extension) in PROGRAMS {
+        let name = format!("dump.{extension}");
+        folder.file(&name, &sample());
+        let words = format!("it is called .{} and is a good dump", extension.to_lowercase());
+        assert_nothing_written(&folder, &name).told(&words).silent_about("damaged");
+    }
+    for ((program, _), (_, extension)) in PROGRAMS.iter().zip(&PROGRAMS[1..4]) {
+        let name = format!("dump.{extension}");
+        folder.file(&name, &pack(&folder, program, &sample()));
+        let words = format!("it is called .{extension} and starts like {program}\n");
+        assert_nothing_written(&folder, &name).told(&words).silent_about("damaged");
+    }
+}
+
+/// Packed files among several that are one recording.
+#[test]
+fn packed_and_plain_parts_of_one_recording() {
+    let folder = Folder::new("packed-parts");
+    let mut parts: Vec<Vec<u8>> = (0..4).map(|at| change(at, 10)).collect();
+    let mut files: Vec<String> = Vec::new();
+    for (part, (program, extension)) in parts.iter().zip(PROGRAMS) {
+        files.push(folder.file(&format!("part.{extension}"), &pack(&folder, program, part)));
+    }
+    parts.insert(2, large());
+    files.insert(2, folder.file("plain", &large()));
+    // Starts like zstd and is none.
+    parts.push(record(0x28b5_2ffd, 11, 0, &[]));
+    files.push(folder.file("of-1991", &parts[5]));
+    let whole = parts.concat();
+    let expected = run_fed(&["list", "-"], &whole).ended(0).out;
+    let words: Vec<&str> = ["list"].into_iter().chain(files.iter().map(String::as_str)).collect();
+    assert!(run(&words).ended(0).out == expected);
 }
 
 #[test]

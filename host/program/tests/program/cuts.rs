@@ -86,22 +86,33 @@ fn kept_and_gone_are_told() {
 }
 
 #[test]
-fn a_long_list_of_those_left_is_cut_short() {
-    let of = |count: u16| (1..=count).flat_map(|number| change(1, number)).collect::<Vec<u8>>();
-    muted(&of(20), &[]).told("AS20 (").silent_about("more");
-    muted(&of(21), &[]).told("AS20 (").told("and 1 more").silent_about("AS21 (");
-    muted(&of(50), &[]).told("still in the clip: 50").told("and 30 more");
+fn the_report_ends_with_what_a_mute_does_not_reach() {
+    let octets = [change(1, 10), change(1, 20)].concat();
+    let run = muted(&octets, &[10]);
+    let last = run.err.lines().last().unwrap();
+    assert_eq!(last.trim(), "Muted AS numbers may still stand inside other peers' paths.");
+    muted(&octets, &[]).silent_about("paths");
 }
 
 #[test]
-fn a_mute_that_hits_nobody_warns() {
-    let octets = [table(1, &[10]), change(1, 20), table_dump(1, 30, &[]), change(1, 1)].concat();
-    muted(&octets, &[10, 20, 30]).silent_about("WARNING");
-    let run = muted(&octets, &[10, 11, 21]);
-    run.told("WARNING: AS11 ")
-        .told("WARNING: AS21 ")
-        .silent_about("WARNING: AS10")
-        .told("AS numbers to mute: 3, in no table or record: 2");
+fn rib_records_that_came_without_entries_are_counted() {
+    let octets =
+        [table(1, &[10, 20]), rib(5, &[]), rib(5, &[0]), rib(5, &[0, 1]), rib(9, &[])].concat();
+    let words = "RIB records that came with no entries, and stay: ";
+    muted(&octets, &[10]).told(&format!("{words}2\n"));
+    muted(&octets, &[]).silent_about(words);
+    muted(&[table(1, &[10]), rib(5, &[0])].concat(), &[10]).silent_about(words);
+    cut_piped(&octets, &["--to=6.0", "--mute=10"]).told(&format!("{words}1\n"));
+}
+
+#[test]
+fn all_who_are_left_are_listed_unless_it_is_to_be_brief() {
+    let of = |count: u16| (1..=count).flat_map(|number| change(1, number)).collect::<Vec<u8>>();
+    let brief = |count: u16| cut_piped(&of(count), &["--from=0", "--brief"]);
+    brief(20).told("AS20 (").silent_about("more");
+    brief(21).told("AS20 (").told("and 1 more").silent_about("AS21 (");
+    brief(50).told("still in the clip: 50").told("and 30 more");
+    muted(&of(50), &[]).told("still in the clip: 50").told("AS50 (").silent_about("more");
 }
 
 #[test]
@@ -111,29 +122,11 @@ fn a_clip_with_nothing_in_it_warns() {
     let run = window("6.0", "9.0");
     assert_eq!(run.out, table(1, &[10]));
     run.told("from 1970-01-01T00:00:05.000000Z to 1970-01-01T00:00:09.000000Z");
-    window("6.0", "9.1").silent_about("WARNING");
-    muted(&octets, &[10, 20]).told("WARNING: no record but peer tables is left");
-    muted(&change(1, 20), &[20]).told("WARNING: no record");
-    muted(&table(1, &[10]), &[10]).silent_about("WARNING");
-    muted(&[], &[]).silent_about("WARNING");
-}
-
-#[test]
-fn numbers_that_may_hide_somebody_warn() {
-    let short = 130_537 & 0xffff;
-    let octets = [table(1, &[130_537, 64_500]), change(1, short as u16)].concat();
-    muted(&octets, &[130_537]).told("AS65001 is still in the clip").told("muted AS130537");
-    muted(&octets, &[130_537, short]).silent_about("16 bits");
-    muted(&octets, &[]).silent_about("WARNING");
-    muted(&octets, &[64_500]).silent_about("WARNING");
-
-    muted(&table(1, &[0, 10]), &[10]).told("WARNING: AS0 is still in the clip");
-    muted(&table(1, &[0, 10]), &[0]).silent_about("WARNING");
-
-    let stand_in = [change(1, 23_456), table(1, &[70_000, 10])].concat();
-    muted(&stand_in, &[10]).told("WARNING: AS23456").told("anybody with a 4-octet AS");
-    muted(&stand_in, &[70_000]).told("WARNING: AS23456").told("a muted one too");
-    muted(&stand_in, &[23_456]).silent_about("AS23456");
+    window("6.0", "9.1").silent_about("warning");
+    muted(&octets, &[10, 20]).told("warning: no record but peer tables is left");
+    muted(&change(1, 20), &[20]).told("warning: no record");
+    muted(&table(1, &[10]), &[10]).silent_about("warning");
+    muted(&[], &[]).silent_about("warning");
 }
 
 #[test]
@@ -147,8 +140,8 @@ fn quiet_leaves_out_the_report_alone() {
     assert_eq!(cut(&["--quiet"]).err, "");
     let run = cut(&["-q", "--mute=7"]);
     assert_eq!(run.err.lines().count(), 1, "{}", run.err);
-    run.told("WARNING: AS7 ");
-    cut(&["--mute=7"]).told("kept").told("WARNING: AS7 ");
+    run.told("warning: 1 of 1 numbers hit nobody: AS7 ");
+    cut(&["--mute=7"]).told("kept").told("hit nobody: AS7 ");
 }
 
 #[test]
@@ -165,4 +158,6 @@ fn mute_files_that_cannot_be_used() {
     cut(&folder.word("none")).ended(2).told("cannot read").told("none");
     assert_eq!(folder.names(), ["bad"]);
     cut(&folder.file("empty", b"# nobody\n")).ended(0).told("empty lists no AS number");
+    assert_eq!(folder.read("clip")[..107], sample()[..107]);
+    assert_eq!(folder.read("clip").len(), 107, "the peer table alone");
 }

@@ -34,6 +34,17 @@ pub fn named_table(time: u32, name: &[u8], numbers: &[u32]) -> Vec<u8> {
     record(time, 13, 1, &message)
 }
 
+/// A peer table of peers with these AS numbers, at 192.0.2.N.
+pub fn table_at(time: u32, peers: &[(u32, u8)]) -> Vec<u8> {
+    let mut message = vec![192, 0, 2, 254, 0, 0];
+    message.extend((peers.len() as u16).to_be_bytes());
+    for (number, last) in peers {
+        message.extend([2, 192, 0, 2, *last, 192, 0, 2, *last]);
+        message.extend(number.to_be_bytes());
+    }
+    record(time, 13, 1, &message)
+}
+
 /// A RIB record of the prefix of all addresses; its entries have no attributes.
 pub fn rib(time: u32, indexes: &[u16]) -> Vec<u8> {
     let mut message = vec![0, 0, 0, 0, 0];
@@ -59,6 +70,14 @@ pub fn change(time: u32, peer_as: u16) -> Vec<u8> {
 
 pub fn change_of(time: u32, peer_as: u16, old: u8, new: u8) -> Vec<u8> {
     record(time, 16, 0, &[session(peer_as), vec![0, old, 0, new]].concat())
+}
+
+/// A state change of a peer at 192.0.2.N with a collector of this AS.
+pub fn change_at(time: u32, peer_as: u16, last: u8, local_as: u16) -> Vec<u8> {
+    let mut message = peer_as.to_be_bytes().to_vec();
+    message.extend(local_as.to_be_bytes());
+    message.extend([0, 0, 0, 1, 192, 0, 2, last, 192, 0, 2, 254, 0, 3, 0, 4]);
+    record(time, 16, 0, &message)
 }
 
 /// A BGP message of 19 octets whose length field says `length`.

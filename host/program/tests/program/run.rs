@@ -95,7 +95,7 @@ pub fn finish(command: Command) -> Run {
     finish_fed(command, &[])
 }
 
-fn finish_fed(mut command: Command, input: &[u8]) -> Run {
+pub fn finish_fed(mut command: Command, input: &[u8]) -> Run {
     let mut child = command.stdout(Stdio::piped()).stderr(Stdio::piped()).spawn().unwrap();
     let stdin = child.stdin.take();
     let mut stdout = child.stdout.take().unwrap();
@@ -130,6 +130,18 @@ fn wait(child: &mut Child) -> Option<i32> {
         }
         thread::sleep(Duration::from_micros(300));
     }
+}
+
+/// On a terminal of so many columns, to which standard output and standard error go together; none
+/// if the system has no program that makes one.
+pub fn run_on_terminal(columns: u16, arguments: &[&str]) -> Option<Run> {
+    let words: Vec<String> = words().iter().map(|word| word.display().to_string()).collect();
+    let words = words.iter().map(String::as_str).chain(arguments.iter().copied());
+    let quoted: Vec<String> = words.map(|word| format!("'{word}'")).collect();
+    let line = format!("stty cols {columns}; exec {}", quoted.join(" "));
+    let mut command = Command::new("script");
+    command.args(["-qec", &line, "/dev/null"]).stdin(Stdio::null());
+    found("script").is_absolute().then(|| finish(command))
 }
 
 /// A folder of a test's own, gone when the test is over.

@@ -12,7 +12,7 @@ fn help_and_version() {
         assert!(run(&[name, "--help"]).ended(0).out_text().starts_with(&usage));
     }
     let cut = run(&["cut", "--help"]).ended(0);
-    assert!(cut.out_text().contains("up to but not including"));
+    assert!(cut.out_text().contains("the window's end, which is not in it"));
 }
 
 /// A terminal has 80 columns.
@@ -60,7 +60,7 @@ fn mistyped_words_have_a_hint() {
 
 #[test]
 fn wrong_usage_is_status_2() {
-    let wrong: [(&[&str], &str); 8] = [
+    let wrong: [(&[&str], &str); 9] = [
         (&[], "which command?"),
         (&["slice", SAMPLE], "no such command: slice"),
         (&["list"], "which FILE?"),
@@ -68,6 +68,7 @@ fn wrong_usage_is_status_2() {
         (&["report"], "which FILE?"),
         (&["report", SAMPLE, "--tabel"], "no such option: --tabel"),
         (&["report", "-", SAMPLE, "-"], "standard input (-) more than once"),
+        (&["cut", SAMPLE, "--to", "1", "-o", "x"], "can be read in two ways"),
         (&["cut", SAMPLE, "--from", "2026-02-30T00:00:00Z"], "has day 30"),
     ];
     for (arguments, words) in wrong {
@@ -84,6 +85,6 @@ fn input_that_cannot_be_read_is_status_2() {
         run(&[name, &folder.word("")]).ended(2).told("cannot read");
     }
     let (none, out) = (folder.word("none"), folder.word("out"));
-    run(&["cut", &none, "--from", "0", "--to", "1", "-o", &out]).ended(2).told("cannot read");
+    run(&["cut", &none, "--from", "0", "--to", "1.0", "-o", &out]).ended(2).told("cannot read");
     assert!(folder.names().is_empty());
 }
