@@ -13,13 +13,6 @@ pub fn nearest<'a>(word: &str, words: &[&'a str]) -> Option<&'a str> {
     near.min_by_key(|(slips, _)| *slips).map(|(_, other)| other)
 }
 
-/// The options that a help text explains, which a mistyped one may have been meant to be.
-pub fn options(text: &str) -> Vec<&str> {
-    let lines = text.lines().filter(|line| line.trim_start().starts_with('-'));
-    let words = lines.flat_map(|line| line.split([' ', ',', '.', ';', '(', ')', '[', ']']));
-    words.filter(|word| word.starts_with('-') && word.len() > 1).collect()
-}
-
 /// How many slips lead from one word to the other, no letter being touched twice.
 fn slips(one: &str, other: &str) -> usize {
     let other: Vec<char> = other.chars().collect();
@@ -109,21 +102,6 @@ mod tests {
         }
         assert_eq!(nearest("--mtue", &["--from", "--mute", "--mute-file"]), Some("--mute"));
         assert_eq!(nearest("--mut-file", &["--mute", "--mute-file"]), Some("--mute-file"));
-    }
-
-    #[test]
-    fn options_of_a_help_text() {
-        let text = "\
-Usage: dagsumilat cut FILE [--usage] -o OUT
-
-Writes to OUT what --prose says.
-
-  --mute AS        leave out this AS (not with --only); may be repeated
-  -o, --output OUT the clip; - is standard output
-                   as --continued says
-";
-        assert_eq!(options(text), ["--mute", "--only", "-o", "--output"]);
-        assert_eq!(nearest("--ouptut", &options(text)), Some("--output"));
     }
 
     #[test]
