@@ -5,7 +5,6 @@ use crate::arguments::CutOrder;
 use crate::evidence::Evidence;
 use crate::input::Recording;
 use crate::memory;
-use crate::moment;
 use crate::muting::{self, Muting, Wanted};
 use crate::outcome::Outcome;
 use crate::output::{Draft, Target};
@@ -13,12 +12,12 @@ use crate::progress::Progress;
 use crate::stop::{self, tell, Stop};
 use crate::tally::{Of, Tally};
 use crate::warnings::{Judged, Warning};
-use dagsumilat::{Fault, Window};
+use dagsumilat::Fault;
 use std::collections::BTreeMap;
 use std::thread;
 
 pub fn cut(order: &CutOrder) -> Result<(), Stop> {
-    refuse_window(order.period.window())?;
+    order.period.refuse_backward()?;
     refuse_outputs(order)?;
     let (wanted, warnings) = muting::read(&order.whose)?;
     let mut progress = Progress::new(order.reading.progress);
@@ -30,14 +29,6 @@ pub fn cut(order: &CutOrder) -> Result<(), Stop> {
     progress.clear();
     let counted = Counted { done: &done, peers: after.by_as(), after };
     finish(order, &recording, &counted, warnings, draft)
-}
-
-/// Asks the library, with no dump yet: no file need be read for an order that cannot be met.
-fn refuse_window(window: Window) -> Result<(), Stop> {
-    dagsumilat::cut(&[], window, &[]).map(drop).map_err(|refusal| {
-        let (from, to) = (moment::shown(window.from), moment::shown(window.to));
-        Stop::Refused(advice::order_refused(refusal.fault, &from, &to))
-    })
 }
 
 fn refuse_outputs(order: &CutOrder) -> Result<(), Stop> {

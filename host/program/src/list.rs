@@ -1,29 +1,21 @@
 //! The command that shows the records, all or those of some peers and times.
 
-use crate::advice;
 use crate::arguments::ListOrder;
 use crate::long_list::LongList;
-use crate::moment;
 use crate::period::Period;
 use crate::show::{self, Out};
-use crate::stop::Stop;
-use dagsumilat::{records, Kind, Record, Refusal, Window};
+use crate::stop::{self, Stop};
+use dagsumilat::{records, Kind, Record, Refusal};
 use std::collections::HashSet;
 use std::io::{self, Write};
 
 pub fn list(order: &ListOrder) -> Result<(), Stop> {
-    refuse_window(order.period.window())?;
+    order.doubts.iter().for_each(|doubt| stop::tell(&format!("WARNING: {doubt}")));
+    // As the cut does: nothing would be shown, as if there were nothing.
+    order.period.refuse_backward()?;
     let recording = show::read(&order.reading)?;
     let refusal = show::print(|out| write(order, &recording.octets, out))?;
     show::end(&recording, refusal)
-}
-
-/// As the library refuses it for a cut: nothing would be shown, as if there were nothing.
-fn refuse_window(window: Window) -> Result<(), Stop> {
-    dagsumilat::cut(&[], window, &[]).map(drop).map_err(|refusal| {
-        let (from, to) = (moment::shown(window.from), moment::shown(window.to));
-        Stop::Refused(advice::order_refused(refusal.fault, &from, &to))
-    })
 }
 
 fn write(order: &ListOrder, dump: &[u8], out: &mut Out) -> io::Result<Option<Refusal>> {
