@@ -13,6 +13,7 @@ mod manual;
 mod names;
 mod really;
 mod reports;
+mod rows;
 mod run;
 mod several;
 mod shown;
