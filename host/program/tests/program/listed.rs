@@ -4,6 +4,7 @@ use crate::clock::micros;
 use crate::dumps::{
     change, change_of, message, named_table, record, rib, session, table, table_dump, SAMPLE,
 };
+use crate::rows::row;
 use crate::run::{is_emulated, run, run_fed, Run};
 use compare::making::{any, ask, Known};
 use second::dump::{Dump, Located};
@@ -95,6 +96,33 @@ fn messages_of_every_type() {
         *octets.last_mut().unwrap() = code;
         let run = long(&[], &octets).ended(0);
         assert!(run.out_text().contains(&format!("  {name}, 19 octets\n")), "{}", run.out_text());
+    }
+}
+
+/// Bits behind the length are shown as they stand, and octets that are not there as zeros.
+#[test]
+fn prefixes_of_every_kind() {
+    let rib = |subtype, length: u8, prefix: &[u8]| {
+        record(1, 13, subtype, &[&[0, 0, 0, 0, length], prefix, &[0, 0]].concat())
+    };
+    let dump = [
+        table(1, &[10]),
+        rib(2, 25, &[192, 0, 2, 0xff]),
+        rib(3, 9, &[10, 0xff]),
+        rib(4, 33, &[0x20, 1, 0xd, 0xb8, 0xff]),
+        rib(5, 0, &[]),
+        rib(4, 128, &[0xff; 16]),
+    ];
+    let run = long(&[], &dump.concat()).ended(0);
+    for (line, words) in run.out_text().lines().skip(2).zip([
+        "RIB IPv4 unicast 192.0.2.255/25, 0 entries",
+        "RIB IPv4 multicast 10.255.0.0/9, 0 entries",
+        "RIB IPv6 unicast 2001:db8:ff00::/33, 0 entries",
+        "RIB IPv6 multicast ::/0, 0 entries",
+        "RIB IPv6 unicast ffff:ffff:ffff:ffff:ffff:ffff:ffff:ffff/128, 0 entries",
+    ]) {
+        let told: Vec<&str> = line.split_whitespace().skip(2).collect();
+        assert_eq!(told.join(" "), words);
     }
 }
 
@@ -198,19 +226,22 @@ fn the_part_is_that_of_the_second_program() {
         let expected: Vec<usize> = wanted.iter().map(|located| located.offset).collect();
         assert_eq!(offsets(&short), expected);
         words.push("--long".to_string());
-        assert_times(&run_fed(&words, &octets).ended(status), &wanted);
+        assert_rows(&run_fed(&words, &octets).ended(status), &wanted);
         shown += wanted.len();
     }
     assert!(shown > 100, "few records are shown: {shown}");
 }
 
-/// The long form has a line for each of these, with its offset and time.
-fn assert_times(long: &Run, wanted: &[&Located]) {
+/// The long form has a line for each of these, as their fields are.
+fn assert_rows(long: &Run, wanted: &[&Located]) {
     let lines: Vec<&str> = long.out_text().lines().collect();
     assert_eq!(lines.len(), wanted.len() + 2, "{}", long.out_text());
     for (line, located) in lines[1..].iter().zip(wanted) {
-        let words: Vec<&str> = line.split_whitespace().collect();
-        assert_eq!(words[0], located.offset.to_string());
-        assert_eq!(micros(words[1]), located.record.time(), "{line}");
+        let mut words = line.split(' ').filter(|word| !word.is_empty());
+        assert_eq!(words.next(), Some(&located.offset.to_string()[..]));
+        assert_eq!(words.next().map(micros), Some(located.record.time()), "{line}");
+        let expected = row(&located.record);
+        let expected = expected.split(' ').filter(|word| !word.is_empty());
+        assert_eq!(words.collect::<Vec<_>>(), expected.collect::<Vec<_>>());
     }
 }

@@ -18,6 +18,7 @@ mod memory;
 mod names;
 mod really;
 mod reports;
+mod rows;
 mod run;
 mod several;
 mod shown;

@@ -1,6 +1,6 @@
 //! What a file really is that is no dump, told instead of what the fault often comes from.
 
-use crate::dumps::change;
+use crate::dumps::{change, change_of, record};
 use crate::run::{run, run_fed, Folder};
 
 /// Some files, and what they are said to look like. Archives that are unpacked are none of these.
@@ -53,9 +53,23 @@ fn only_at_the_start_of_a_file() {
     }
 }
 
+/// A file that goes on with a record of the one before starts with anything.
+#[test]
+fn what_goes_on_with_a_record_is_no_file_of_its_own() {
+    let folder = Folder::new("really-split");
+    let octets = [record(1, 48, 0, &[b'a'; 2_000]), change_of(1, 64_500, 3, 7)].concat();
+    let (one, two) = octets.split_at(30);
+    let (one, two) = (folder.file("one", one), folder.file("two", two));
+    run(&["check", &two]).ended(1).told("It looks like text");
+    run(&["check", &one, &two])
+        .ended(1)
+        .told(&format!("{two}: fault 9 at "))
+        .silent_about("It looks like");
+}
+
 #[test]
 fn a_dump_looks_like_none_of_these() {
-    for octets in [change(1, 64_496)[..20].to_vec(), crate::dumps::change_of(1, 64_496, 3, 7)] {
+    for octets in [change(1, 64_496)[..20].to_vec(), change_of(1, 64_496, 3, 7)] {
         run_fed(&["check", "-"], &octets).ended(1).told("Often: ").silent_about("It looks like");
     }
 }

@@ -41,6 +41,19 @@ fn a_good_dump_is_said_to_be_good() {
     assert_eq!(run.err, "");
 }
 
+/// An AS with two addresses, and an address that two AS numbers have.
+#[test]
+fn peers_are_told_apart_by_as_and_address() {
+    let mut moved = change(2, 10);
+    moved[20..24].copy_from_slice(&[192, 0, 2, 200]);
+    let dump = [change(1, 10), moved, change(3, 20), table(9, &[10])].concat();
+    let text = run_fed(&["check", "-"], &dump).ended(0);
+    let times = "\n  times from 1970-01-01T00:00:01.000000Z to 1970-01-01T00:00:03.000000Z (";
+    for words in [times, "\n  peer AS numbers              2\n  peers by address             3\n"] {
+        assert!(text.out_text().contains(words), "{}", text.out_text());
+    }
+}
+
 #[test]
 fn an_empty_dump_is_good() {
     let check = run_fed(&["check", "-"], &[]).ended(0);
