@@ -2,7 +2,7 @@
  * Dagsumilat: MRT dumps (RFC 6396) of route collectors, checked, counted, gone through record by record, and cut to a time window
  * without the peers on a list; single records read and written. Proved in Rattle; docs/PROMISES.md leads to what is proved.
  *
- * Link with libdagsumilat.a (`rt staticlib dagsumilat` writes it to target/staticlib).
+ * Link with libdagsumilat.a (`host/archive` writes it to lib/, for the machine at hand).
  *
  * For every call:
  * - Any octets may be handed over. No call fails in any way but by the number in answer[0], allocates, keeps a pointer, or writes

@@ -58,15 +58,26 @@ _dagsumilat_reading() {
     fi
 }
 
-_dagsumilat() {
-    local typed=${COMP_WORDS[COMP_CWORD]} option=${COMP_WORDS[COMP_CWORD - 1]}
-    local commands='list check peers report cut'
-    # --option=value is three words here.
+# Puts together what bash takes apart, at = and at colons, which times, addresses and file names have: sets `typed`, and `option`, the
+# word before it.
+_dagsumilat_join() {
+    local at=$COMP_CWORD
+    typed=${COMP_WORDS[at]}
+    while [ "$at" -gt 2 ] && [[ ${COMP_WORDS[at]} =~ ^:+$ || ${COMP_WORDS[at - 1]} =~ ^:+$ ]]; do
+        at=$((at - 1))
+        typed=${COMP_WORDS[at]}$typed
+    done
+    option=${COMP_WORDS[at - 1]}
     if [ "$typed" = = ]; then
         typed=
     elif [ "$option" = = ]; then
-        option=${COMP_WORDS[COMP_CWORD - 2]}
+        option=${COMP_WORDS[at - 2]}
     fi
+}
+
+_dagsumilat() {
+    local typed option commands='list check peers report cut'
+    _dagsumilat_join
     case $COMP_CWORD:${COMP_WORDS[1]} in
     1:-*) _dagsumilat_offer "$(_dagsumilat_options)" ;;
     1:*) _dagsumilat_offer "$commands help version" ;;
@@ -74,6 +85,8 @@ _dagsumilat() {
     2:help) _dagsumilat_offer "$commands" ;;
     *) _dagsumilat_offer ;;
     esac
+    # bash puts what is offered behind the last colon.
+    COMPREPLY=("${COMPREPLY[@]#"${typed%"${typed##*:}"}"}")
 }
 
 complete -o bashdefault -o default -F _dagsumilat dagsumilat

@@ -1,7 +1,7 @@
 //! The list of faults: all that is told of one by its number stands here, once.
 //!
-//! A new fault is an entry here and a line in include/dagsumilat.h; tests hold the two together, and
-//! the manual's list, which is made from this one.
+//! A new fault is an entry here and a line in include/dagsumilat.h; tests hold the two together,
+//! and the manual's list, which is made from this one.
 
 use crate::field::Fails;
 

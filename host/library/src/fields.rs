@@ -155,6 +155,13 @@ pub struct Message<'a> {
     pub message: &'a [u8],
 }
 
+impl Message<'_> {
+    /// The BGP message's type: every one that was read has it.
+    pub fn type_octet(&self) -> Option<u8> {
+        self.message.get(18).copied()
+    }
+}
+
 /// The fields of one record.
 #[derive(Clone, Copy, Debug, PartialEq, Eq, Hash)]
 pub enum Fields<'a> {

@@ -4,7 +4,7 @@ use crate::advice;
 use crate::arguments::CutOrder;
 use crate::evidence::Evidence;
 use crate::input::Recording;
-use crate::moment;
+use crate::memory;
 use crate::muting::{self, Muting, Wanted};
 use crate::outcome::Outcome;
 use crate::output::{Draft, Target};
@@ -12,13 +12,12 @@ use crate::progress::Progress;
 use crate::stop::{self, tell, Stop};
 use crate::tally::{Of, Tally};
 use crate::warnings::{Judged, Warning};
-use dagsumilat::{Fault, Window};
+use dagsumilat::Fault;
 use std::collections::BTreeMap;
-use std::hint::black_box;
 use std::thread;
 
 pub fn cut(order: &CutOrder) -> Result<(), Stop> {
-    refuse_window(order.period.window())?;
+    order.period.refuse_backward()?;
     refuse_outputs(order)?;
     let (wanted, warnings) = muting::read(&order.whose)?;
     let mut progress = Progress::new(order.reading.progress);
@@ -32,23 +31,24 @@ pub fn cut(order: &CutOrder) -> Result<(), Stop> {
     finish(order, &recording, &counted, warnings, draft)
 }
 
-/// Asks the library, with no dump yet: no file need be read for an order that cannot be met.
-fn refuse_window(window: Window) -> Result<(), Stop> {
-    dagsumilat::cut(&[], window, &[]).map(drop).map_err(|refusal| {
-        let (from, to) = (moment::shown(window.from), moment::shown(window.to));
-        Stop::Refused(advice::order_refused(refusal.fault, &from, &to))
-    })
-}
-
 fn refuse_outputs(order: &CutOrder) -> Result<(), Stop> {
     let mut inputs = order.reading.metadata()?;
     for file in muting::files(&order.whose) {
         inputs.push(file.metadata()?);
     }
-    for target in order.target.iter().chain(&order.report) {
+    if let Some(target) = &order.target {
         target.refuse_early(&inputs)?;
+        target.refuse_terminal()?;
     }
-    Ok(())
+    if let Some(report) = &order.report {
+        report.refuse_early(&inputs)?;
+    }
+    match (&order.target, &order.report) {
+        (Some(target), Some(report)) if target.is_also(report) => {
+            Err(Stop::writing(report.name(), &"it is OUT too"))
+        }
+        _ => Ok(()),
+    }
 }
 
 /// A cut in memory, with what stood in the dump.
@@ -61,53 +61,63 @@ struct Cut {
 
 impl Cut {
     fn make(order: &CutOrder, wanted: &Wanted, recording: &Recording) -> Result<Cut, Stop> {
-        refuse_size(recording.octets.len())?;
+        let size = recording.octets.len();
+        let room = memory::zeros(size).map_err(|unread| {
+            Stop::Trouble(format!("a clip may need as much memory as its dump: {unread}"))
+        })?;
         match wanted.at_once() {
-            Some(muting) => Cut::beside(order, muting, recording),
-            None => Cut::behind(order, wanted, recording),
+            Some(muting) => Cut::beside(order, muting, recording, room),
+            None => Cut::behind(order, wanted, recording, room),
         }
     }
 
     /// Counts while the library cuts.
-    fn beside(order: &CutOrder, muting: Muting, recording: &Recording) -> Result<Cut, Stop> {
-        let dump = &recording.octets[..];
+    fn beside(
+        order: &CutOrder,
+        muting: Muting,
+        recording: &Recording,
+        room: Vec<u8>,
+    ) -> Result<Cut, Stop> {
         let (before, clip) = thread::scope(|scope| {
-            let counting = scope.spawn(|| Tally::of(dump));
-            let clip = dagsumilat::cut(dump, order.period.window(), &muting.numbers);
+            let counting = scope.spawn(|| Tally::of(&recording.octets));
+            let clip = cut_into(room, order, &muting, recording);
             (counting.join().expect("counting does not panic"), clip)
         });
-        let clip = clip.map_err(|refusal| refused(recording, refusal.fault))?;
-        Ok(Cut { muting, peers: before.by_as(), before, clip })
+        Ok(Cut { muting, peers: before.by_as(), before, clip: clip? })
     }
 
     /// Counts first: the peers of the dump decide who goes.
-    fn behind(order: &CutOrder, wanted: &Wanted, recording: &Recording) -> Result<Cut, Stop> {
-        let dump = &recording.octets[..];
-        let before = Tally::of(dump);
+    fn behind(
+        order: &CutOrder,
+        wanted: &Wanted,
+        recording: &Recording,
+        room: Vec<u8>,
+    ) -> Result<Cut, Stop> {
+        let before = Tally::of(&recording.octets);
         if let Some(refusal) = before.refusal {
             return Err(refused(recording, refusal.fault));
         }
         let peers = before.by_as();
         let muting = wanted.resolve(&peers, order.is_forced).map_err(Stop::Refused)?;
-        let clip = dagsumilat::cut(dump, order.period.window(), &muting.numbers);
-        let clip = clip.map_err(|refusal| refused(recording, refusal.fault))?;
+        let clip = cut_into(room, order, &muting, recording)?;
         Ok(Cut { muting, peers, before, clip })
     }
 }
 
-/// Where memory is short, the library's own buffer would end the program without words.
-fn refuse_size(size: usize) -> Result<(), Stop> {
-    let mut room = Vec::<u8>::new();
-    let got = room.try_reserve_exact(size);
-    // Else the compiler may leave out what nobody uses.
-    black_box(&room);
-    got.map_err(|error| {
-        Stop::Trouble(format!("a clip may need as much memory as its dump, {size} octets: {error}"))
-    })
+fn cut_into(
+    mut room: Vec<u8>,
+    order: &CutOrder,
+    muting: &Muting,
+    recording: &Recording,
+) -> Result<Vec<u8>, Stop> {
+    let window = order.period.window();
+    let cut = dagsumilat::cut_into(&recording.octets, window, &muting.numbers, &mut room);
+    room.truncate(cut.map_err(|refusal| refused(recording, refusal.fault))?);
+    Ok(room)
 }
 
 fn refused(recording: &Recording, fault: Fault) -> Stop {
-    Stop::Refused(advice::dump_refused(&recording.name(), &recording.octets, fault))
+    Stop::Refused(advice::dump_refused(recording, fault))
 }
 
 /// What is written has no name yet: whoever counts may still say no.

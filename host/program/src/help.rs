@@ -3,23 +3,25 @@
 pub const VERSION: &str = concat!("dagsumilat ", env!("CARGO_PKG_VERSION"), "\n");
 
 pub const PROGRAM: &str = "\
-Usage: dagsumilat COMMAND FILE [OPTION]...
+Usage: dagsumilat COMMAND FILE... [OPTION]...
 
 Checks, lists, counts and cuts MRT dumps (RFC 6396) of route collectors.
 
 Commands:
-  list FILE    one line for each record, then the first fault
-  check FILE   says whether the dump is good, or what is wrong and where
-  peers FILE   the peer AS numbers in the dump, with counts
-  report FILE...
-               records, state changes and breaks over many dumps
-  cut FILE --from TIME --to TIME [--mute AS]... -o OUT
-               keeps a window of time and leaves out the peers of muted AS numbers
-  COMMAND --help says more.
+  list FILE...    a line for each record, then the first fault
+  check FILE...   says whether the dump is good, or what is wrong and where
+  peers FILE...   the peer AS numbers in the dump, with counts
+  report FILE...  records, state changes and breaks over many dumps
+  cut FILE... [--from TIME] [--to TIME] [--mute AS]... -o OUT
+                  keeps a window of time, without the peers of muted AS numbers
+  help [COMMAND]  says more, as COMMAND --help does
+  version         says which version this is, as --version does
 
-FILE may be packed by gzip or bzip2; - is standard input.
-Exit status: 0 done, 1 the dump or the order was refused, 2 wrong usage, or something could
-not be read or written.
+Several FILEs are one recording, laid end to end in the order given; report
+counts each by itself. A FILE may be packed by gzip, bzip2, xz or zstd; - is
+standard input.
+Exit status: 0 done, 1 the dump or the order was refused, 2 wrong usage, or
+something could not be read or written.
 
 Examples:
   Is the dump good?
@@ -30,34 +32,66 @@ Examples:
 ";
 
 pub const LIST: &str = "\
-Usage: dagsumilat list FILE
+Usage: dagsumilat list FILE... [--long] [--peer AS]... [--from TIME] [--to TIME]
+                       [--around TIME --seconds N]
 
 Prints a line for each record before the first fault,
   at=OFFSET time=MICROSECONDS type=T subtype=S length=L
-then fault=N place=OFFSET, where the field that failed starts; fault=0 and the dump's length
-if the dump is good. The words for a fault go to standard error.
+then fault=N place=OFFSET, where the field that failed starts; fault=0 and the
+dump's length if the dump is good. The words for a fault go to standard error.
+Several FILEs are one recording, laid end to end in the order given.
 
+  --long         columns for a person: offset, date and time, kind, peer AS and
+                 address, then prefix, message or state change; the last line
+                 says that the dump is good or tells the fault, in words
+  --peer AS      only records of this peer AS, RIB records with an entry of it
+                 and peer tables that have it; may be repeated
+  --from TIME    only records from this time on
+  --to TIME      only records before this time
+  --around TIME --seconds N
+                 only records from N seconds before TIME up to N seconds after
+  --limit SIZE   read no more than this; 8GB if it is not given
   --no-progress  no bar for a large file
+
+AS and TIME are written as for cut. Peer tables are shown by their time too.
+
+Example:
+  What came from AS 64500 about noon?
+    dagsumilat list --long updates.20260301.1200.bz2 --peer 64500 \\
+      --around 2026-03-01T12:00:00Z --seconds 30
 ";
 
 pub const CHECK: &str = "\
-Usage: dagsumilat check FILE
+Usage: dagsumilat check FILE...
 
-Says how many records and octets a good dump has. Otherwise tells the first fault: its number,
-its place, which is the first octet of the field that failed, and what it means; that field's
-name, the record it is in and the octets around; how much of the dump is good; what such a
-fault often comes from and what to do.
+Of a good dump says how many records and octets it has, its first and last time,
+its records by kind, and how many peer AS numbers and peers there are.
 
+Otherwise tells the first fault: its number, its place, which is the first octet
+of the field that failed, and what it means; that field's name; where its record
+starts, its Type, Subtype and Length, its time and its peer AS as far as they
+can be read; the octets around; how much of the dump is good; what such a fault
+often comes from and what to do. Where no dump starts with a FILE's first octet,
+it says what the FILE looks like, as a page of a server or packets.
+
+Several FILEs are one recording, laid end to end in the order given; the one
+that has the fault is named.
+
+  --limit SIZE   read no more than this; 8GB if it is not given
   --no-progress  no bar for a large file
 ";
 
 pub const PEERS: &str = "\
-Usage: dagsumilat peers FILE
+Usage: dagsumilat peers FILE...
 
-Shows each AS that is a peer in a peer table or the peer AS of a record of type 12, 16 or 17,
-by number, with how many peers (over all tables), RIB entries and records it has. If the dump
-has a fault, what stands before it is shown, and the fault is told.
+Shows each AS that is a peer in a peer table or the peer AS of a record of type
+12, 16 or 17, by number, with how many peers (over all tables), RIB entries and
+records it has; the first and the last time of those records and of the RIB
+records with those entries; and its addresses. If the dump has a fault, what
+stands before it is shown, and the fault is told.
+Several FILEs are one recording, laid end to end in the order given.
 
+  --limit SIZE   read no more than this; 8GB if it is not given
   --no-progress  no bar for a large file
 ";
 
@@ -67,15 +101,19 @@ Usage: dagsumilat report [--table] FILE...
 Counts each FILE by itself and prints the sums:
   records=COUNT
   changes=COUNT     state changes: types 16 and 17, subtypes 0 and 5
-  breaks=COUNT      type 12 records whose sequence is not the previous one's plus one (0 follows
-                    65535); the first of a dump has no previous
+  breaks=COUNT      type 12 records whose sequence is not the previous one's
+                    plus one (0 follows 65535); the first of a dump has no
+                    previous
   change.O.N=COUNT  state changes from state O to state N, where there are any
 
-States are 1 Idle, 2 Connect, 3 Active, 4 OpenSent, 5 OpenConfirm and 6 Established. A dump
-with a fault adds nothing: the fault is told, the others are counted, and the exit status is 1.
-So it is with a FILE that cannot be read; the exit status is then 2.
+States are 1 Idle, 2 Connect, 3 Active, 4 OpenSent, 5 OpenConfirm and 6
+Established. A dump with a fault adds nothing: the fault is told, the others are
+counted, and the exit status is 1. So it is with a FILE that cannot be read; the
+exit status is then 2.
 
-  --table        a table instead, old states in rows and new ones in columns, with sums
+  --table        a table instead, old states in rows and new ones in columns,
+                 with sums
+  --limit SIZE   read no more than this of a FILE; 8GB if it is not given
   --no-progress  no bar for a large file
 
 Example:
@@ -159,6 +197,14 @@ mod tests {
             for option in options(text) {
                 assert!(manual.contains(option), "{option} is not in the manual");
             }
+        }
+    }
+
+    #[test]
+    fn lines_fit_on_a_terminal() {
+        for text in [LIST, CHECK, PEERS, REPORT] {
+            let long = text.lines().find(|line| line.len() > 80);
+            assert_eq!(long, None);
         }
     }
 

@@ -8,6 +8,8 @@ mod archive;
 mod arguments;
 mod as_number;
 mod bgp_length;
+mod check;
+mod contents;
 mod cut;
 mod digest;
 mod escaped;
@@ -18,7 +20,10 @@ mod header;
 mod help;
 mod input;
 mod json;
+mod kinds;
+mod list;
 mod lists;
+mod long_list;
 mod memory;
 mod moment;
 mod muting;
@@ -26,6 +31,7 @@ mod near;
 mod number;
 mod outcome;
 mod output;
+mod peers;
 mod period;
 mod progress;
 mod session_report;
@@ -68,9 +74,9 @@ fn run() -> Result<(), Stop> {
             let printed = io::stdout().lock().write_all(text.as_bytes());
             printed.map_err(|error| Stop::printing(&error))
         }
-        Request::List(order) => show::list(&order),
-        Request::Check(reading) => show::check(&reading),
-        Request::Peers(reading) => show::peers(&reading),
+        Request::List(order) => list::list(&order),
+        Request::Check(reading) => check::check(&reading),
+        Request::Peers(reading) => peers::peers(&reading),
         Request::Report(order) => session_report::report(&order),
         Request::Cut(order) => cut::cut(&order),
     }

@@ -61,6 +61,26 @@ impl Target {
         }
     }
 
+    /// Refuses a terminal, which would take a clip's octets for orders.
+    pub fn refuse_terminal(&self) -> Result<(), Stop> {
+        match self {
+            Target::Standard if io::stdout().is_terminal() => Err(Stop::writing(
+                self.name(),
+                &"it is a terminal, and a clip is no text; -o OUT writes a file",
+            )),
+            _ => Ok(()),
+        }
+    }
+
+    /// Whether both are one file, under whatever names of its folder.
+    pub fn is_also(&self, other: &Target) -> bool {
+        let (Target::File { path, .. }, Target::File { path: of, .. }) = (self, other) else {
+            return self == other;
+        };
+        let at = |path: &Path| folder(path).metadata().map(|found| (found.dev(), found.ino())).ok();
+        path.file_name() == of.file_name() && at(path) == at(of)
+    }
+
     /// Brings the octets to the disk, without a name that anybody sees yet. Standard output gets
     /// nothing before the draft is placed.
     pub fn draft<'a>(
@@ -127,12 +147,9 @@ fn refuse_standard(inputs: &[Metadata]) -> Result<(), Stop> {
     let stop = |error: &dyn Display| Stop::writing(Path::new("standard output"), error);
     let file = out.as_fd().try_clone_to_owned().map(File::from);
     let found = file.and_then(|file| file.metadata()).map_err(|error| stop(&error))?;
-    if out.is_terminal() {
-        Err(stop(&"it is a terminal, and a clip is no text; -o OUT writes a file"))
-    } else if found.is_file() && is_among(&found, inputs) {
-        Err(stop(&INPUT))
-    } else {
-        Ok(())
+    match found.is_file() && is_among(&found, inputs) {
+        true => Err(stop(&INPUT)),
+        false => Ok(()),
     }
 }
 

@@ -1,6 +1,8 @@
 //! The times that are asked for: a window that may be open on either side.
 
+use crate::advice;
 use crate::moment;
+use crate::stop::Stop;
 use dagsumilat::Window;
 
 #[derive(Clone, Copy, Debug, Default, PartialEq, Eq)]
@@ -20,6 +22,15 @@ impl Period {
     /// A record's time has 53 bits, so that all times are before the last one of 64.
     pub fn window(self) -> Window {
         Window { from: self.from.unwrap_or(0), to: self.to.unwrap_or(u64::MAX) }
+    }
+
+    /// Asks the library, with no dump yet: no file need be read for an order that cannot be met.
+    pub fn refuse_backward(self) -> Result<(), Stop> {
+        let window = self.window();
+        dagsumilat::cut(&[], window, &[]).map(drop).map_err(|refusal| {
+            let (from, to) = (moment::shown(window.from), moment::shown(window.to));
+            Stop::Refused(advice::order_refused(refusal.fault, &from, &to))
+        })
     }
 
     pub fn holds(self, time: u64) -> bool {

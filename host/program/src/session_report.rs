@@ -27,10 +27,9 @@ pub fn report(order: &ReportOrder) -> Result<(), Stop> {
 /// A recording that is refused or cannot be read adds nothing.
 fn add(total: &mut Report, reading: &Reading) -> Result<(), Stop> {
     let recording = reading.read(&mut Progress::new(reading.progress))?;
-    total.add(&recording.octets).map_err(|refusal| {
-        let words = advice::dump_refused(&recording.name(), &recording.octets, refusal.fault);
-        Stop::Refused(words)
-    })
+    total
+        .add(&recording.octets)
+        .map_err(|refusal| Stop::Refused(advice::dump_refused(&recording, refusal.fault)))
 }
 
 /// One line for each total, and for each cell that is not zero.

@@ -35,6 +35,7 @@ pub fn parse(words: &mut Words) -> Result<Request, Refused> {
     let mut found = ListWords::default();
     take_all(&mut found, words)?;
     let period = found.window.period()?;
-    let (long, peers) = (found.long, found.peers);
-    Ok(Request::List(ListOrder { reading: found.reading.reading()?, long, peers, period }))
+    let (long, peers, doubts) = (found.long, found.peers, found.window.doubts);
+    let reading = found.reading.reading()?;
+    Ok(Request::List(ListOrder { reading, long, peers, period, doubts }))
 }

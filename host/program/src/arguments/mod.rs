@@ -34,6 +34,8 @@ pub struct ListOrder {
     /// None: of all.
     pub peers: Vec<u32>,
     pub period: Period,
+    /// What the order may not have been meant to say.
+    pub doubts: Vec<String>,
 }
 
 /// Recordings to be counted together, each read by itself; as a table, or as lines for a program.

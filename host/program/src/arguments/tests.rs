@@ -58,6 +58,7 @@ fn a_list() {
         long: false,
         peers: Vec::new(),
         period: Period::default(),
+        doubts: Vec::new(),
     };
     assert_eq!(parsed("list a"), Ok(Request::List(all)));
     let part = ListOrder {
@@ -65,6 +66,7 @@ fn a_list() {
         long: true,
         peers: vec![7, 65_546],
         period: Period { from: None, to: Some(5_000_000) },
+        doubts: Vec::new(),
     };
     assert_eq!(parsed("list --long a --peer 7 --peer=1.10 --to 5.0"), Ok(Request::List(part)));
 }

@@ -93,6 +93,24 @@ fn values() {
     assert!(offered(&["list", "--peer", "1"]).is_empty());
 }
 
+/// At which bash takes words apart: it puts what is offered behind the last one.
+#[test]
+fn colons() {
+    let folder = Folder::new("complete-colons");
+    folder.file("at 12:00:11.mrt", b"");
+    folder.file("1-list", b"");
+    let offered = |words: &[&str]| offered_in(&folder, words);
+    assert_eq!(offered(&["check", "at 12", ":", "0"]), ["00:11.mrt"]);
+    assert_eq!(offered(&["check", "at 12", ":", "00", ":"]), ["11.mrt"]);
+    assert_eq!(offered(&["cut", "-o", "at 12", ":", "00", ":", "1"]), ["11.mrt"]);
+    for value in [&["12", ":", "1"][..], &["2001", ":", "db8", "::", "1"], &["12", ":"]] {
+        for before in [&["cut", "--from"][..], &["cut", "--mute-address", "="]] {
+            let words = [before, value].concat();
+            assert!(offered(&words).is_empty(), "{words:?}");
+        }
+    }
+}
+
 /// Those that a help text explains, at the start of a line.
 fn explained(text: &str) -> BTreeSet<String> {
     let lines = text.lines().filter(|line| line.trim_start().starts_with('-'));

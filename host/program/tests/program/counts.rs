@@ -1,12 +1,16 @@
 //! What peers and the report of a cut count, against the second program's records of made-up dumps.
 
+use crate::clock::micros;
 use crate::run::{is_emulated, run_fed};
 use compare::making::{any, ask, good, Known};
 use second::bgp4mp::Event;
-use second::dump::Dump;
+use second::dump::{Dump, Located};
+use second::net::{Address, AsNumber};
+use second::peer_table::Peer;
 use second::record::Body;
 use second::vectors::rng::Rng;
-use std::collections::BTreeMap;
+use std::collections::{BTreeMap, BTreeSet};
+use std::net::IpAddr;
 
 fn rounds() -> usize {
     if is_emulated() {
@@ -16,11 +20,32 @@ fn rounds() -> usize {
     }
 }
 
-/// The rows of the report without that of octets, and peers, entries and records of each AS.
+/// The rows of the report without that of octets, and what each AS has.
 #[derive(Default)]
 struct Seen {
     rows: [u64; 8],
-    by_as: BTreeMap<u32, [u64; 3]>,
+    by_as: BTreeMap<u32, Of>,
+}
+
+#[derive(Default)]
+struct Of {
+    /// Peers, entries and records.
+    counts: [u64; 3],
+    times: Vec<u64>,
+    addresses: BTreeSet<IpAddr>,
+}
+
+/// A peer, and a place to count it.
+struct Named {
+    number: u32,
+    address: Address,
+    column: usize,
+}
+
+impl Named {
+    fn new(number: AsNumber, address: Address, column: usize) -> Named {
+        Named { number: number.number(), address, column }
+    }
 }
 
 const ENTRIES: usize = 6;
@@ -29,30 +54,46 @@ const PEERS: usize = 7;
 impl Seen {
     fn of(octets: &[u8]) -> Seen {
         let (mut seen, mut table) = (Seen::default(), Vec::new());
-        for located in &Dump::read(octets).records {
-            let body = &located.record.body;
-            seen.rows[row(body)] += 1;
-            match body {
-                Body::PeerTable(peers) => {
-                    table = peers.peers.iter().map(|peer| peer.asn.number()).collect();
-                    table.iter().for_each(|number| seen.add(*number, 0));
-                    seen.rows[PEERS] += table.len() as u64;
-                }
-                Body::Rib(rib) => {
-                    let indexes = rib.entries.iter().map(|entry| usize::from(entry.peer_index));
-                    indexes.for_each(|index| seen.add(table[index], 1));
-                    seen.rows[ENTRIES] += rib.entries.len() as u64;
-                }
-                Body::TableDump(route) => seen.add(route.peer_as.number(), 2),
-                Body::Bgp4mp(event) => seen.add(event.session.peer_as.number(), 2),
-                Body::Unread(_) => {}
+        for Located { record, .. } in &Dump::read(octets).records {
+            seen.rows[row(&record.body)] += 1;
+            if let Body::PeerTable(found) = &record.body {
+                table = found.peers.clone();
+                seen.rows[PEERS] += table.len() as u64;
             }
+            if let Body::Rib(rib) = &record.body {
+                seen.rows[ENTRIES] += rib.entries.len() as u64;
+            }
+            let time = Some(record.time()).filter(|_| row(&record.body) != 0);
+            named(&record.body, &table).iter().for_each(|named| seen.add(named, time));
         }
         seen
     }
 
-    fn add(&mut self, number: u32, column: usize) {
-        self.by_as.entry(number).or_default()[column] += 1;
+    fn add(&mut self, named: &Named, time: Option<u64>) {
+        let of = self.by_as.entry(named.number).or_default();
+        of.counts[named.column] += 1;
+        of.times.extend(time);
+        of.addresses.insert(match named.address {
+            Address::V4(octets) => octets.into(),
+            Address::V6(octets) => octets.into(),
+        });
+    }
+}
+
+/// Who is named in a record; `table` has the peers of the table in force, or of this very record.
+fn named(body: &Body, table: &[Peer]) -> Vec<Named> {
+    let peer = |peer: &Peer, column| Named::new(peer.asn, peer.address, column);
+    match body {
+        Body::PeerTable(_) => table.iter().map(|it| peer(it, 0)).collect(),
+        Body::Rib(rib) => {
+            let peers = rib.entries.iter().map(|entry| &table[usize::from(entry.peer_index)]);
+            peers.map(|it| peer(it, 1)).collect()
+        }
+        Body::TableDump(route) => vec![Named::new(route.peer_as, route.peer, 2)],
+        Body::Bgp4mp(event) => {
+            vec![Named::new(event.session.peer_as, event.session.ends.peer(), 2)]
+        }
+        Body::Unread(_) => Vec::new(),
     }
 }
 
@@ -77,8 +118,20 @@ fn numbers(line: &str) -> Vec<u64> {
 
 /// An AS and its three counts, as lines of numbers.
 fn lines_of(seen: &Seen) -> Vec<Vec<u64>> {
-    let line = |(number, counts): (&u32, &[u64; 3])| [&[u64::from(*number)], &counts[..]].concat();
+    let line = |(number, of): (&u32, &Of)| [&[u64::from(*number)], &of.counts[..]].concat();
     seen.by_as.iter().map(line).collect()
+}
+
+/// A line of peers: four numbers, two times or dashes, and addresses.
+fn assert_line(line: &str, number: u32, of: &Of) {
+    let words: Vec<&str> = line.split_whitespace().collect();
+    assert_eq!(words.len(), 7, "{line}");
+    let counts = words[..4].iter().map(|word| word.parse::<u64>().unwrap());
+    assert!(counts.eq([u64::from(number)].into_iter().chain(of.counts)), "{line}");
+    let times = words[4..6].iter().map(|word| (*word != "-").then(|| micros(word)));
+    assert!(times.eq([of.times.iter().min(), of.times.iter().max()].map(|time| time.copied())));
+    let addresses = words[6].split(',').map(|word| word.parse::<IpAddr>().unwrap());
+    assert!(addresses.eq(of.addresses.iter().copied()), "{line}");
 }
 
 #[test]
@@ -89,9 +142,10 @@ fn peers_are_those_of_the_second_program() {
         let octets = any(&mut rng).dump;
         let status = i32::from(Dump::read(&octets).end.fault.is_some());
         let run = run_fed(&["peers", "-"], &octets).ended(status);
-        let told: Vec<_> = run.out_text().lines().skip(1).map(numbers).collect();
-        assert_eq!(told, lines_of(&Seen::of(&octets)));
-        lines += told.len();
+        let (told, seen) = (run.out_text().lines().skip(1), Seen::of(&octets));
+        assert_eq!(told.clone().count(), seen.by_as.len());
+        told.zip(&seen.by_as).for_each(|(line, (number, of))| assert_line(line, *number, of));
+        lines += seen.by_as.len();
     }
     assert!(lines > rounds());
 }

@@ -198,6 +198,9 @@ fn it_is_written_with_the_clip_or_not_at_all() {
     order(&folder.word("none/report")).ended(2).told("its folder");
     order(SAMPLE).ended(2).told("it is an input");
     order(&out).ended(2).told("two names");
+    fs::create_dir(folder.path("inner")).unwrap();
+    order(&folder.word("inner/../clip")).ended(2).told("it is OUT too");
+    fs::remove_dir(folder.path("inner")).unwrap();
     let report = folder.file("report", b"an earlier one");
     order(&report).ended(2).told("--force replaces it");
     assert_eq!(folder.names(), ["report"]);

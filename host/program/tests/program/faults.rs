@@ -73,7 +73,7 @@ fn words(file: &str, faulty: &Faulty) -> [String; 3] {
     [
         format!("{file}: fault {number} at octet {place} (0x{place:x}): "),
         format!("\n  Field: {name}. The record starts at octet {record} (0x{record:x})"),
-        format!("good dump (head -c {record})."),
+        format!(" octets, stand before it: alone they are a good dump (head -c {record})."),
     ]
 }
 
@@ -151,6 +151,7 @@ fn a_header_far_before_the_place_is_shown() {
     let shown = "
   Field: peer type, of which nothing is there. The record starts at octet 32 (0x20): \
 Type 13, Subtype 1, Length 125.
+  By its header: TABLE_DUMP_V2, peer table, time 1970-01-01T00:00:01.000000Z.
     00000020 |00 00 00 01 00 0d 00 01 00 00 00 7d
     ...
     00000090  c0 00 02 01 c0 00 02 01 00 00 00 0a 02 c0 00 02

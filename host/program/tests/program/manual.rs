@@ -1,5 +1,7 @@
-//! The manual's list of faults is made from the library's.
+//! The manual's list of faults is made from the library's, and its example of one is the program's.
 
+use crate::dumps::{change, change_of, NOON};
+use crate::run::run_fed;
 use dagsumilat::Fault;
 use std::{env, fs};
 
@@ -69,6 +71,24 @@ fn faults_are_the_manuals() {
         );
     }
     assert!(list == made, "the manual lists more than the faults; in host/, mend it:\n  {MEND}");
+}
+
+/// A line of the example may end in dots for what is left out.
+#[test]
+fn the_example_of_a_fault_is_what_the_program_tells() {
+    let manual = fs::read_to_string(MANUAL).unwrap();
+    let (_, faults) = manual.split_once("\n.SH FAULTS\n").unwrap();
+    let (_, example) = faults.split_once("\n.nf\n").unwrap();
+    let (example, _) = example.split_once("\n.fi\n").unwrap();
+    let dump = [change(1, 1), change_of(NOON, 64_500, 3, 7), change(NOON + 1, 64_496)].concat();
+    let told = run_fed(&["check", "-"], &dump).ended(1).err;
+    let told = told.strip_prefix("dagsumilat: standard input: ").unwrap();
+    for (line, told) in example.replace("\\-", "-").lines().zip(told.lines()) {
+        match line.strip_suffix("...") {
+            Some(start) => assert!(told.starts_with(start), "{told}"),
+            None => assert_eq!(line, told),
+        }
+    }
 }
 
 #[test]

@@ -28,7 +28,7 @@ fn a_latin_name_is_told_with_its_octets() {
     let (file, clip) = (folder.file("dump", &dump(b"caf\xe9")), folder.word("clip"));
     let place = "fault 17 at octet 50 (0x32): a peer table's view name is not UTF-8 text\n";
     let words = "\n  The name is \"caf\\xE9\", 4 octet(s); the first that is not text is at octet \
-                 53 (0x35).\n  1 good record(s) stand before it";
+                 53 (0x35).\n  1 good record(s), 32 octets, stand before it";
     let cut = [&["cut", &file, "-o", &clip], &ALL[..]].concat();
     let orders = ["check", "list", "peers", "report"].map(|command| vec![command, &file]);
     for order in orders.into_iter().chain([cut]) {

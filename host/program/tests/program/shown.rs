@@ -25,22 +25,36 @@ fn large_dumps_are_listed_too() {
 #[test]
 fn a_good_dump_is_said_to_be_good() {
     let run = run(&["check", SAMPLE]).ended(0);
-    assert_eq!(run.out_text(), format!("{SAMPLE}: good, 49 records, 3329 octets\n"));
+    let expected = "\
+: good, 49 records, 3329 octets
+  times from 2026-03-01T11:55:00.000000Z to 2026-03-01T12:03:02.000007Z (not those of peer tables)
+  peer tables                  1
+  RIB records                  8
+  state changes               11
+  BGP messages                29
+  RIB entries                 13
+  peers in tables              5
+  peer AS numbers              5
+  peers by address             5
+";
+    assert_eq!(run.out_text(), format!("{SAMPLE}{expected}"));
     assert_eq!(run.err, "");
 }
 
 #[test]
 fn an_empty_dump_is_good() {
     let check = run_fed(&["check", "-"], &[]).ended(0);
-    assert_eq!(check.out_text(), "standard input: good, 0 records, 0 octets\n");
+    let expected = "standard input: good, 0 records, 0 octets\n  standard input is empty\n";
+    assert_eq!(check.out_text(), expected);
     assert_eq!(run_fed(&["list", "-"], &[]).ended(0).out_text(), "fault=0 place=0\n");
     assert_eq!(run_fed(&["peers", "-"], &[]).ended(0).out_text().lines().count(), 1);
 }
 
-/// The lines of peers as numbers, without the head line.
+/// The numbers with which the lines of peers start, without the head line.
 fn rows(text: &str) -> Vec<Vec<u64>> {
-    let numbers = |line: &str| line.split_whitespace().map(|word| word.parse().unwrap()).collect();
-    text.lines().skip(1).map(numbers).collect()
+    let words =
+        |line: &str| line.split_whitespace().take(4).map(|word| word.parse().unwrap()).collect();
+    text.lines().skip(1).map(words).collect()
 }
 
 #[test]
@@ -60,9 +74,31 @@ fn peers_are_counted_over_all_tables() {
     ];
     let run = run_fed(&["peers", "-"], &dump.concat()).ended(0);
     let head: Vec<&str> = run.out_text().lines().next().unwrap().split_whitespace().collect();
-    assert_eq!(head, ["AS", "peers", "entries", "records"]);
+    assert_eq!(head, ["AS", "peers", "entries", "records", "first", "last", "addresses"]);
     let expected = [[10, 1, 2, 2], [20, 2, 2, 0], [30, 1, 0, 0], [40, 0, 0, 1], [70_000, 1, 2, 0]];
     assert_eq!(rows(run.out_text()), expected);
+}
+
+/// Of the records and the RIB records with entries; a table's own time is none of these.
+#[test]
+fn peers_have_times_and_addresses() {
+    let mut moved = change(2, 10);
+    moved[20..24].copy_from_slice(&[192, 0, 2, 200]);
+    let dump = [table(1, &[10, 20, 30]), rib(5, &[0, 1]), change(4, 10), moved, change(3, 40)];
+    let run = run_fed(&["peers", "-"], &dump.concat()).ended(0);
+    let time = |second: u8| format!("1970-01-01T00:00:0{second}.000000Z");
+    let line = |line: &str| line.split_whitespace().skip(4).map(String::from).collect();
+    let lines: Vec<Vec<String>> = run.out_text().lines().skip(1).map(line).collect();
+    let here = || "192.0.2.1".to_string();
+    assert_eq!(
+        lines,
+        [
+            [time(2), time(5), "192.0.2.1,192.0.2.200".to_string()],
+            [time(5), time(5), here()],
+            ["-".to_string(), "-".to_string(), here()],
+            [time(3), time(3), here()],
+        ]
+    );
 }
 
 #[test]

@@ -45,6 +45,7 @@ fn milliseconds_are_doubted() {
     run.told("WARNING: --from 1772366400011 is taken as microseconds, 1970-01-21T")
         .told("as milliseconds it is 2026-03-01T12:00:00.011000Z");
     cut(&octets, &["--from", "1772366400011000"]).ended(0).silent_about("milliseconds");
+    run_fed(&["list", "-", "--from", "1772366400011"], &octets).ended(0).told("WARNING: --from 17");
     let strict = cut(&octets, &["--from", "1772366400011", "--strict"]).ended(1);
     assert!(strict.out.is_empty());
 }
