@@ -31,7 +31,7 @@ const NAMES: [&str; 4] = ["stdin", "(stdin)", "/*stdin*\\", "standard input"];
 const NOT_DAMAGE: [&str; 4] = ["memory", "alloc", "thread", "shared librar"];
 
 impl Archive {
-    /// The octets by which an archive is known, and no others need be looked at.
+    /// By so many octets an archive is known.
     pub const HEAD: usize = 6;
 
     /// What the input may be packed with, by its name and its first octets alone.
@@ -83,31 +83,30 @@ impl Archive {
         }
     }
 
-    /// Appends the unpacked octets to `out`, which may get as long as the limit. Otherwise gives the
-    /// words for a person.
+    /// Appends the unpacked octets to `out`, which may get as long as the limit.
     pub fn unpack(
         self,
         name: &Path,
         packed: &[u8],
         (out, limit): (&mut Vec<u8>, u64),
         progress: &mut Progress,
-    ) -> Result<(), String> {
+    ) -> Result<(), Unread> {
         if let Some(words) = self.misnamed(name, packed) {
-            return Err(words);
+            return Err(Unread::Words(words));
         }
         if packed.is_empty() {
-            return Err(self.damaged("it is empty"));
+            return Err(Unread::Words(self.damaged("it is empty")));
         }
         progress.stage("unpacking", Some(packed.len() as u64));
-        let step = |fed| progress.at(fed);
-        match filter::pass(self.command(), packed, (out, limit), step) {
-            Ok(passed) => self.judge(name, packed, &passed),
-            Err(Unread::System(error)) if error.kind() == ErrorKind::NotFound => {
-                Err(self.missing())
+        let passed = filter::pass(self.command(), packed, (out, limit), |fed| progress.at(fed));
+        let passed = passed.map_err(|unread| match unread {
+            Unread::System(error) if error.kind() == ErrorKind::NotFound => {
+                Unread::Words(self.missing())
             }
-            Err(Unread::System(error)) => Err(format!("{}: {error}", self.program())),
-            Err(unread) => Err(unread.to_string()),
-        }
+            Unread::System(error) => Unread::Words(format!("{}: {error}", self.program())),
+            other => other,
+        })?;
+        self.judge(name, packed, &passed).map_err(Unread::Words)
     }
 
     fn missing(self) -> String {
@@ -151,14 +150,17 @@ impl Archive {
     fn first_words(self, words: &[u8]) -> Option<String> {
         let text = String::from_utf8_lossy(words);
         let line = text.lines().map(str::trim).find(|line| !line.is_empty())?;
-        let named = |line: &str, name: &str| {
-            line.strip_prefix(name).map(|rest| rest.trim_start().to_string())
-        };
-        let line = named(line, &format!("{}:", self.program())).unwrap_or(line.to_string());
-        let behind = NAMES.into_iter().find_map(|name| named(&line, name)).unwrap_or(line.clone());
-        let words = behind.trim_start_matches(':').trim().trim_end_matches(['.', ';']);
-        Some(escaped::text(if words.is_empty() { &line } else { words }))
+        let line = without(line, &[&format!("{}:", self.program())]);
+        let words = without(line, &NAMES).trim_start_matches([':', ' ']);
+        let words = words.trim_end_matches(['.', ';']);
+        Some(escaped::text(if words.is_empty() { line } else { words }))
     }
+}
+
+/// The rest of a line that starts with one of these names.
+fn without<'a>(line: &'a str, names: &[&str]) -> &'a str {
+    let rest = names.iter().find_map(|name| line.strip_prefix(name));
+    rest.unwrap_or(line).trim_start()
 }
 
 fn is_plain(octets: &[u8]) -> bool {

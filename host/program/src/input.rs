@@ -45,15 +45,14 @@ pub struct Recording {
 }
 
 impl Reading {
-    /// Each FILE is read to where its octets stay: a recording may be half the machine's memory.
     pub fn read(&self, progress: &mut Progress) -> Result<Recording, Stop> {
-        let mut recording = Recording { octets: Vec::new(), parts: Vec::new() };
+        let mut joined = Joined { reading: self, octets: Vec::new(), progress };
+        let mut parts = Vec::new();
         for source in &self.sources {
-            let part = self.append(source, &mut recording.octets, progress);
-            let part = part.map_err(|words| Stop::reading(source.name(), &words))?;
-            recording.parts.push(part);
+            let part = joined.append(source);
+            parts.push(part.map_err(|unread| Stop::reading(source.name(), &unread))?);
         }
-        Ok(recording)
+        Ok(Recording { octets: joined.octets, parts })
     }
 
     /// What the system knows of the files.
@@ -61,51 +60,53 @@ impl Reading {
         self.sources.iter().map(Source::metadata).collect()
     }
 
-    fn append(
-        &self,
-        source: &Source,
-        octets: &mut Vec<u8>,
-        progress: &mut Progress,
-    ) -> Result<Part, String> {
-        let start = octets.len();
-        let mut input = Input::open(source).map_err(|error| error.to_string())?;
-        let (size, archive, sha256);
-        if Archive::perhaps(source.name(), &input.head).is_some() {
-            let mut packed = Vec::new();
-            input.read(&mut packed, self.limit, progress).map_err(|unread| unread.to_string())?;
-            archive = Archive::of(source.name(), &packed);
-            (size, sha256) = (packed.len(), self.digest(&packed));
-            unpacked(archive, source.name(), packed, (octets, self.limit), progress)?;
-        } else {
-            input.read(octets, self.limit, progress).map_err(|unread| unread.to_string())?;
-            archive = None;
-            (size, sha256) = (octets.len() - start, self.digest(&octets[start..]));
-        }
-        let (end, size, name) = (octets.len(), size as u64, source.shown());
-        Ok(Part { name, start, end, size, archive, sha256 })
-    }
-
     fn digest(&self, octets: &[u8]) -> Option<String> {
         self.digests.then(|| digest::sha256(octets)).flatten()
     }
 }
 
-/// Appends what is left of a FILE that looked packed when it is unpacked, if it is packed at all.
-fn unpacked(
-    archive: Option<Archive>,
-    name: &Path,
-    packed: Vec<u8>,
-    (octets, limit): (&mut Vec<u8>, u64),
-    progress: &mut Progress,
-) -> Result<(), String> {
-    match archive {
-        Some(archive) => archive.unpack(name, &packed, (octets, limit), progress),
-        None if octets.is_empty() => {
-            *octets = packed;
-            Ok(())
+/// The FILEs that are read already. Each is read to where its octets stay: a recording may need half
+/// of the machine's memory.
+struct Joined<'a> {
+    reading: &'a Reading,
+    octets: Vec<u8>,
+    progress: &'a mut Progress,
+}
+
+impl Joined<'_> {
+    fn append(&mut self, source: &Source) -> Result<Part, Unread> {
+        let (name, start) = (source.name(), self.octets.len());
+        let input = Input::open(source)?;
+        let (size, sha256, archive) = match Archive::perhaps(name, &input.head) {
+            Some(_) => self.append_packed(name, input)?,
+            None => {
+                input.read(&mut self.octets, self.reading.limit, self.progress)?;
+                let octets = &self.octets[start..];
+                (octets.len(), self.reading.digest(octets), None)
+            }
+        };
+        let (size, end) = (size as u64, self.octets.len());
+        Ok(Part { name: source.shown(), start, end, size, archive, sha256 })
+    }
+
+    /// A FILE that may be packed is read to a place of its own. Its size, digest and archive.
+    fn append_packed(
+        &mut self,
+        name: &Path,
+        input: Input,
+    ) -> Result<(usize, Option<String>, Option<Archive>), Unread> {
+        let limit = self.reading.limit;
+        let mut packed = Vec::new();
+        input.read(&mut packed, limit, self.progress)?;
+        let (size, sha256) = (packed.len(), self.reading.digest(&packed));
+        let archive = Archive::of(name, &packed);
+        match archive {
+            Some(archive) => {
+                archive.unpack(name, &packed, (&mut self.octets, limit), self.progress)?;
+            }
+            None => memory::append(&mut self.octets, &mut &packed[..], limit, |_| {})?,
         }
-        None => memory::append(octets, &mut &packed[..], limit, |_| {})
-            .map_err(|unread| unread.to_string()),
+        Ok((size, sha256, archive))
     }
 }
 
@@ -127,12 +128,7 @@ impl Input {
     }
 
     /// Appends all of it.
-    fn read(
-        &mut self,
-        octets: &mut Vec<u8>,
-        limit: u64,
-        progress: &mut Progress,
-    ) -> Result<(), Unread> {
+    fn read(self, octets: &mut Vec<u8>, limit: u64, progress: &mut Progress) -> Result<(), Unread> {
         progress.stage("reading", self.size);
         let start = octets.len();
         if let Some(size) = self.size {

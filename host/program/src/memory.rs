@@ -26,12 +26,15 @@ pub enum Unread {
     },
     /// There are more octets than these.
     Limit(u64),
+    /// What is wrong with the octets.
+    Words(String),
 }
 
 impl Display for Unread {
     fn fmt(&self, f: &mut fmt::Formatter) -> fmt::Result {
         match self {
             Unread::System(error) => error.fmt(f),
+            Unread::Words(words) => words.fmt(f),
             Unread::Memory { there, wanted } => write!(
                 f,
                 "there is not enough memory: {} octets were there, and room for {} more was wanted",

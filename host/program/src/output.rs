@@ -260,7 +260,9 @@ fn name_unnamed(file: &File, path: &Path, force: bool) -> io::Result<()> {
     match system::name_file(file, path) {
         Err(error) if force && error.kind() == ErrorKind::AlreadyExists => {
             let _wait = SignalsWait::start();
-            HiddenName::link(file, folder(path))?.give(path, true)
+            // Goes away before signals come again, if it was not given up.
+            let hidden = HiddenName::link(file, folder(path))?;
+            hidden.give(path, true)
         }
         other => other,
     }

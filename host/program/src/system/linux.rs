@@ -129,3 +129,32 @@ extern "C" fn look() {
         open.store(unsafe { fcntl(file, F_GETFD) } != -1, Ordering::Relaxed);
     }
 }
+
+#[cfg(test)]
+mod tests {
+    use super::*;
+
+    /// The signals that wait for this thread, a bit each.
+    fn waiting() -> u64 {
+        let status = fs::read_to_string("/proc/thread-self/status").unwrap();
+        let line = status.lines().find_map(|line| line.strip_prefix("SigBlk:")).unwrap();
+        u64::from_str_radix(line.trim(), 16).unwrap()
+    }
+
+    #[test]
+    fn signals_wait_and_come_again() {
+        let before = waiting();
+        let wait = SignalsWait::start().unwrap();
+        // SIGHUP, SIGINT, SIGQUIT, SIGUSR1, SIGPIPE, SIGALRM, SIGTERM, SIGXFSZ
+        for signal in [1, 2, 3, 10, 13, 14, 15, 25] {
+            assert_ne!(waiting() & 1 << (signal - 1), 0, "{signal}");
+        }
+        drop(wait);
+        assert_eq!(waiting(), before);
+    }
+
+    #[test]
+    fn a_test_has_its_standard_files() {
+        assert!([0, 1, 2, 700, -1].into_iter().all(was_open));
+    }
+}
