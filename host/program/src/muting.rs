@@ -38,13 +38,18 @@ pub struct Muting {
 pub fn read(whose: &Whose) -> Result<(Wanted, Vec<Warning>), Stop> {
     let mut warnings = Vec::new();
     let wanted = match whose {
-        Whose::Muted { numbers, addresses } => Wanted::Muted {
-            numbers: all(numbers, as_number::parse, "no AS number", &mut warnings)?,
-            addresses: all(addresses, address, "no address", &mut warnings)?,
-        },
-        Whose::AllBut(agreed) => {
-            Wanted::AllBut(all(agreed, as_number::parse, "no AS number", &mut warnings)?)
+        Whose::Muted { numbers, addresses } => {
+            let numbers = all(numbers, as_number::parse, |file| {
+                warnings.push(empty(file, "lists no AS number: nobody is muted by it", true));
+            })?;
+            let addresses = all(addresses, address, |file| {
+                warnings.push(empty(file, "lists no address: nobody is muted by it", true));
+            })?;
+            Wanted::Muted { numbers, addresses }
         }
+        Whose::AllBut(agreed) => Wanted::AllBut(all(agreed, as_number::parse, |file| {
+            warnings.push(empty(file, "lists no AS number: nobody has agreed by it", false));
+        })?),
     };
     Ok((wanted, warnings))
 }
@@ -54,18 +59,21 @@ pub fn address(text: &str) -> Result<IpAddr, String> {
     text.parse().map_err(|_| "is no IP address; write one as 192.0.2.1 or 2001:db8::1".to_string())
 }
 
+/// Who forgot to fill a list of the muted publishes them.
+fn empty(file: &Source, words: &str, is_serious: bool) -> Warning {
+    Warning { is_serious, words: format!("{} {words}", file.shown()) }
+}
+
 fn all<T: Copy + Ord>(
     listed: &Listed<T>,
     item: fn(&str) -> Result<T, String>,
-    nothing: &str,
-    warnings: &mut Vec<Warning>,
+    mut if_empty: impl FnMut(&Source),
 ) -> Result<Vec<T>, Stop> {
     let mut items = listed.items.clone();
     for file in &listed.files {
         let found = lists::read(file, item)?;
         if found.is_empty() {
-            let words = format!("{} lists {nothing}", file.shown());
-            warnings.push(Warning { is_serious: true, words });
+            if_empty(file);
         }
         items.extend(found);
     }

@@ -4,6 +4,7 @@ use crate::muting::{Muting, Resolved};
 use crate::number::grouped;
 use crate::period::Period;
 use crate::tally::{Count, Of, Tally, KINDS};
+use dagsumilat::Kind;
 use std::collections::BTreeMap;
 use std::fmt::Write;
 
@@ -38,7 +39,7 @@ impl Outcome<'_> {
         let mut text = format!("{clip}: {after} of {before} records kept, {period}\n");
         text.push_str(&self.kept_and_gone());
         text.push_str(&self.muted());
-        text.push_str(&self.without_entries());
+        text.push_str(&self.out_of_reach());
         let left = self.peers_after.iter();
         let _ = writeln!(text, "  peer AS numbers still in the clip: {}", left.len());
         text.push_str(&self.lines(left.map(as_line)));
@@ -100,15 +101,18 @@ impl Outcome<'_> {
         text
     }
 
-    /// They lose nothing by a mute, and show whatever their prefix shows.
-    fn without_entries(&self) -> String {
-        match self.after.empty_ribs {
-            0 => String::new(),
-            _ if self.muting.numbers.is_empty() => String::new(),
-            count => {
-                format!("  RIB records that came with no entries, and stay: {}\n", grouped(count))
-            }
+    /// What no mute takes, where there is one: that it stays should be no surprise.
+    fn out_of_reach(&self) -> String {
+        if self.muting.numbers.is_empty() {
+            return String::new();
         }
+        let unread = self.after.kinds[Kind::Unread as usize];
+        let rows = [
+            ("RIB records that came with no entries, and stay", self.after.empty_ribs),
+            ("records of OSPF and IS-IS, which have no peer AS, and stay", unread),
+        ];
+        let rows = rows.iter().filter(|(_, count)| *count > 0);
+        rows.map(|(words, count)| format!("  {words}: {}\n", grouped(*count))).collect()
     }
 
     /// All lines, or the first of them and how many more there are.

@@ -106,6 +106,17 @@ fn rib_records_that_came_without_entries_are_counted() {
 }
 
 #[test]
+fn records_without_a_peer_are_counted_where_somebody_is_muted() {
+    let octets = [record(5, 48, 0, &[]), record(9, 32, 7, &[1]), change(5, 10)].concat();
+    let words = "records of OSPF and IS-IS, which have no peer AS, and stay: ";
+    muted(&octets, &[10]).told(&format!("{words}2\n"));
+    cut_piped(&octets, &["--only=10", "--to=6.0"]).silent_about(words);
+    cut_piped(&octets, &["--only=11", "--to=6.0"]).told(&format!("{words}1\n"));
+    muted(&octets, &[]).silent_about(words);
+    muted(&change(5, 10), &[10]).silent_about(words);
+}
+
+#[test]
 fn all_who_are_left_are_listed_unless_it_is_to_be_brief() {
     let of = |count: u16| (1..=count).flat_map(|number| change(1, number)).collect::<Vec<u8>>();
     let brief = |count: u16| cut_piped(&of(count), &["--from=0", "--brief"]);
@@ -157,7 +168,10 @@ fn mute_files_that_cannot_be_used() {
         .told("bad: line 3: '6450o' is no AS number");
     cut(&folder.word("none")).ended(2).told("cannot read").told("none");
     assert_eq!(folder.names(), ["bad"]);
-    cut(&folder.file("empty", b"# nobody\n")).ended(0).told("empty lists no AS number");
+    cut(&folder.file("empty", b"# nobody\n"))
+        .ended(0)
+        .told("WARNING: ")
+        .told("empty lists no AS number: nobody is muted by it");
     assert_eq!(folder.read("clip")[..107], sample()[..107]);
     assert_eq!(folder.read("clip").len(), 107, "the peer table alone");
 }

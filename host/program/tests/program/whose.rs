@@ -47,7 +47,9 @@ fn an_empty_list_of_those_who_agreed_mutes_everybody() {
     let octets = [table(1, &[10]), rib(2, &[0]), change(3, 20)].concat();
     let run = cut(&octets, &["--only-file", &agreed]).ended(0);
     assert_eq!(run.out, table(1, &[]));
-    run.told("agreed lists no AS number");
+    run.told("warning: ")
+        .told("agreed lists no AS number: nobody has agreed by it")
+        .silent_about("WARNING");
 }
 
 #[test]
