@@ -154,7 +154,7 @@ mod tests {
     }
 
     #[test]
-    fn a_test_has_its_standard_files() {
-        assert!([0, 1, 2, 700, -1].into_iter().all(was_open));
+    fn what_was_not_looked_at_is_taken_as_open() {
+        assert!([2, 700, -1].into_iter().all(was_open));
     }
 }

@@ -141,7 +141,9 @@ pub fn run_on_terminal(columns: u16, arguments: &[&str]) -> Option<Run> {
     let line = format!("stty cols {columns}; exec {}", quoted.join(" "));
     let mut command = Command::new("script");
     command.args(["-qec", &line, "/dev/null"]).stdin(Stdio::null());
-    found("script").is_absolute().then(|| finish(command))
+    // Others of this name take other options.
+    let version = Command::new("script").arg("--version").output().ok()?.stdout;
+    String::from_utf8_lossy(&version).contains("util-linux").then(|| finish(command))
 }
 
 /// A folder of a test's own, gone when the test is over.
