@@ -2,6 +2,7 @@
 
 use crate::advice;
 use crate::arguments::CutOrder;
+use crate::beside::both;
 use crate::evidence::Evidence;
 use crate::input::Recording;
 use crate::memory;
@@ -14,7 +15,6 @@ use crate::tally::{Of, Tally};
 use crate::warnings::{Judged, Warning};
 use dagsumilat::Fault;
 use std::collections::BTreeMap;
-use std::thread;
 
 pub fn cut(order: &CutOrder) -> Result<(), Stop> {
     order.period.refuse_backward()?;
@@ -78,11 +78,8 @@ impl Cut {
         recording: &Recording,
         room: Vec<u8>,
     ) -> Result<Cut, Stop> {
-        let (before, clip) = thread::scope(|scope| {
-            let counting = scope.spawn(|| Tally::of(&recording.octets));
-            let clip = cut_into(room, order, &muting, recording);
-            (counting.join().expect("counting does not panic"), clip)
-        });
+        let count = || Tally::of(&recording.octets);
+        let (before, clip) = both(count, || cut_into(room, order, &muting, recording));
         Ok(Cut { muting, peers: before.by_as(), before, clip: clip? })
     }
 
@@ -127,12 +124,9 @@ fn draft_and_count<'a>(
     progress: &mut Progress,
 ) -> Result<(Option<Draft<'a>>, Tally), Stop> {
     let target = order.target.as_ref().filter(|_| !order.is_dry);
-    thread::scope(|scope| {
-        let counting = scope.spawn(|| Tally::of(clip));
-        let draft = target.map(|target| target.draft(clip, progress)).transpose();
-        let after = counting.join().expect("counting does not panic");
-        draft.map(|draft| (draft, after))
-    })
+    let write = || target.map(|target| target.draft(clip, progress)).transpose();
+    let (after, draft) = both(|| Tally::of(clip), write);
+    Ok((draft?, after))
 }
 
 /// A cut, and what stands in the clip.

@@ -1,6 +1,7 @@
 //! The report of a cut that is kept with the clip: what was asked, what was read, what came of it.
 
 use crate::arguments::CutOrder;
+use crate::beside::both;
 use crate::digest;
 use crate::help;
 use crate::input::{Part, Recording};
@@ -10,7 +11,6 @@ use crate::muting::{Muting, Resolved};
 use crate::outcome::{Outcome, PATHS};
 use crate::tally::{Count, Of};
 use crate::warnings::Warning;
-use std::thread;
 use std::time::{SystemTime, UNIX_EPOCH};
 
 /// All that a report tells.
@@ -44,11 +44,7 @@ impl Evidence<'_> {
 
     /// Of all octets read, unpacked, and of the clip.
     fn digests(&self) -> (Option<String>, Option<String>) {
-        thread::scope(|scope| {
-            let dump = scope.spawn(|| digest::sha256(&self.recording.octets));
-            let clip = digest::sha256(self.clip);
-            (dump.join().unwrap_or_default(), clip)
-        })
+        both(|| digest::sha256(&self.recording.octets), || digest::sha256(self.clip))
     }
 
     fn order(&self) -> Json {

@@ -7,6 +7,7 @@ mod advice;
 mod archive;
 mod arguments;
 mod as_number;
+mod beside;
 mod bgp_length;
 mod check;
 mod contents;
