@@ -1,6 +1,6 @@
 //! Reading into memory, of which there may be too little.
 
-use crate::size;
+use crate::number::grouped;
 use std::fmt::{self, Display};
 use std::hint::black_box;
 use std::io::{self, Read};
@@ -38,14 +38,14 @@ impl Display for Unread {
             Unread::Memory { there, wanted } => write!(
                 f,
                 "there is not enough memory: {} octets were there, and room for {} more was wanted",
-                size::shown(*there as u64),
-                size::shown(*wanted as u64)
+                grouped(*there as u64),
+                grouped(*wanted as u64)
             ),
             Unread::Limit(limit) => write!(
                 f,
                 "the recording has more than {} octets, unpacked; --limit SIZE sets how many may \
                  be read",
-                size::shown(*limit)
+                grouped(*limit)
             ),
         }
     }

@@ -1,5 +1,7 @@
 //! Sizes as people write them: 500M, 8G, 8GB, 8GiB.
 
+use crate::number::grouped;
+
 /// The letters and how many octets each stands for, as a power of 1,000 or 1,024.
 const POWERS: [(char, u32); 4] = [('k', 1), ('m', 2), ('g', 3), ('t', 4)];
 
@@ -14,7 +16,7 @@ pub fn parse(text: &str) -> Result<u64, String> {
     match size {
         Some(0) => Err("is no size: nothing could be read".to_string()),
         Some(size) => Ok(size),
-        None => Err(format!("has a size above {}", shown(u64::MAX))),
+        None => Err(format!("has a size above {}", grouped(u64::MAX))),
     }
 }
 
@@ -29,14 +31,6 @@ fn unit_of(letters: &str) -> Option<u64> {
         "ib" => Some(1_024_u64.pow(*power)),
         _ => None,
     }
-}
-
-/// With a comma before each group of three digits, as a person reads it.
-pub fn shown(size: u64) -> String {
-    let digits = size.to_string().into_bytes();
-    let mut groups: Vec<_> = digits.rchunks(3).map(String::from_utf8_lossy).collect();
-    groups.reverse();
-    groups.join(",")
 }
 
 #[cfg(test)]
@@ -74,13 +68,6 @@ mod tests {
         assert!(parse("0G").unwrap_err().contains("nothing could be read"));
         for text in ["18446744073709551616", "18446745T", "16777216TiB"] {
             assert!(parse(text).unwrap_err().contains("above 18,446,744,073,709"), "{text}");
-        }
-    }
-
-    #[test]
-    fn digits_in_groups() {
-        for (size, text) in [(0, "0"), (999, "999"), (1_000, "1,000"), (8_000_000, "8,000,000")] {
-            assert_eq!(shown(size), text);
         }
     }
 }
