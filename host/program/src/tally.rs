@@ -2,7 +2,7 @@
 
 use dagsumilat::{records, Fields, Kind, Record, Refusal};
 use std::collections::{BTreeMap, BTreeSet, HashMap};
-use std::net::IpAddr;
+use std::net::{IpAddr, Ipv4Addr};
 
 /// The kinds as they are counted and shown.
 pub const KINDS: [(Kind, &str); 6] = [
@@ -212,7 +212,9 @@ fn seen(record: &Record) -> Option<Seen> {
         Fields::Message(message) => of_session(&message.session),
         _ => return None,
     };
-    let peer = Peer { as_number, address: address? };
+    // Every record that was read has an address; nobody is to be missed for want of one.
+    let address = address.unwrap_or(IpAddr::V4(Ipv4Addr::UNSPECIFIED));
+    let peer = Peer { as_number, address };
     Some(Seen { peer, local, records: 1, span: Span::of(record.time) })
 }
 
