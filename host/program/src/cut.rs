@@ -5,11 +5,11 @@ use crate::arguments::CutOrder;
 use crate::beside::both;
 use crate::evidence::Evidence;
 use crate::input::Recording;
-use crate::memory;
 use crate::muting::{self, Muting, Wanted};
 use crate::outcome::Outcome;
 use crate::output::{Draft, Target};
 use crate::progress::Progress;
+use crate::room::Room;
 use crate::stop::{self, tell, Stop};
 use crate::tally::{Of, Tally};
 use crate::warnings::{Judged, Warning};
@@ -61,56 +61,33 @@ struct Cut {
 
 impl Cut {
     fn make(order: &CutOrder, wanted: &Wanted, recording: &Recording) -> Result<Cut, Stop> {
-        let size = recording.octets.len();
-        let room = memory::zeros(size).map_err(|unread| {
-            Stop::Trouble(format!("a clip may need as much memory as its dump: {unread}"))
-        })?;
         match wanted.at_once() {
-            Some(muting) => Cut::beside(order, muting, recording, room),
-            None => Cut::behind(order, wanted, recording, room),
+            Some(muting) => Cut::beside(order, muting, recording),
+            None => Cut::behind(order, wanted, recording),
         }
     }
 
     /// Counts while the library cuts.
-    fn beside(
-        order: &CutOrder,
-        muting: Muting,
-        recording: &Recording,
-        room: Vec<u8>,
-    ) -> Result<Cut, Stop> {
+    fn beside(order: &CutOrder, muting: Muting, recording: &Recording) -> Result<Cut, Stop> {
+        let room = Room::of(recording, &muting)?;
         let count = || Tally::of(&recording.octets);
-        let (before, clip) = both(count, || cut_into(room, order, &muting, recording));
-        Ok(Cut { muting, peers: before.by_as(), before, clip: clip? })
+        let (before, clip) = both(count, || room.cut(order.period, recording, &muting));
+        let clip = clip.map_err(|refusal| refused(recording, refusal.fault))?;
+        Ok(Cut { muting, peers: before.by_as(), before, clip })
     }
 
     /// Counts first: the peers of the dump decide who goes.
-    fn behind(
-        order: &CutOrder,
-        wanted: &Wanted,
-        recording: &Recording,
-        room: Vec<u8>,
-    ) -> Result<Cut, Stop> {
+    fn behind(order: &CutOrder, wanted: &Wanted, recording: &Recording) -> Result<Cut, Stop> {
         let before = Tally::of(&recording.octets);
         if let Some(refusal) = before.refusal {
             return Err(refused(recording, refusal.fault));
         }
         let peers = before.by_as();
         let muting = wanted.resolve(&peers, order.is_forced).map_err(Stop::Refused)?;
-        let clip = cut_into(room, order, &muting, recording)?;
+        let clip = Room::of(recording, &muting)?.cut(order.period, recording, &muting);
+        let clip = clip.map_err(|refusal| refused(recording, refusal.fault))?;
         Ok(Cut { muting, peers, before, clip })
     }
-}
-
-fn cut_into(
-    mut room: Vec<u8>,
-    order: &CutOrder,
-    muting: &Muting,
-    recording: &Recording,
-) -> Result<Vec<u8>, Stop> {
-    let window = order.period.window();
-    let cut = dagsumilat::cut_into(&recording.octets, window, &muting.numbers, &mut room);
-    room.truncate(cut.map_err(|refusal| refused(recording, refusal.fault))?);
-    Ok(room)
 }
 
 fn refused(recording: &Recording, fault: Fault) -> Stop {

@@ -35,6 +35,7 @@ mod output;
 mod peers;
 mod period;
 mod progress;
+mod room;
 mod session_report;
 mod session_table;
 mod show;

@@ -171,9 +171,8 @@ impl Judged<'_> {
     fn muted_addresses(&self) -> HashMap<IpAddr, u32> {
         let peers = self.before.by_peer.keys();
         let muted = peers.filter(|peer| self.is_muted(peer.as_number));
-        let named = muted.filter(|peer| !STAND_INS.contains(&peer.as_number));
         let mut addresses = HashMap::new();
-        for Peer { as_number, address } in named {
+        for Peer { as_number, address } in muted {
             let least = addresses.entry(*address).or_insert(*as_number);
             *least = (*least).min(*as_number);
         }

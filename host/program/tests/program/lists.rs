@@ -1,8 +1,7 @@
 //! Lists of AS numbers, as people and their programs write them.
 
 use crate::dumps::{change, SAMPLE};
-use crate::run::{is_emulated, run, run_fed, Folder, Run};
-use std::time::{Duration, Instant};
+use crate::run::{run, run_fed, Folder, Run};
 
 const ALL: [&str; 2] = ["--from=0", "--to=9999-01-01T00:00:00Z"];
 
@@ -59,10 +58,7 @@ fn a_million_lines() {
     let folder = Folder::new("million");
     let dump = folder.file("dump", &change(1, 10));
     let list: String = (0..1_000_000).map(|number| format!("{}\n", number + 100_000)).collect();
-    let now = Instant::now();
     let order = [&["cut", &dump, "--mute-file=-", "-qo", "-"], &ALL[..]].concat();
     let run = run_fed(&order, list.as_bytes()).ended(0);
-    let most = if is_emulated() { 40 } else { 4 };
-    assert!(now.elapsed() < Duration::from_secs(most), "{:?}", now.elapsed());
     assert_eq!(run.out, change(1, 10));
 }

@@ -2,7 +2,6 @@
 
 use crate::dumps::{change, change_at, message, rib, table, table_at, table_dump};
 use crate::run::{run, run_fed, Folder, Run};
-use std::time::{Duration, Instant};
 
 fn cut(octets: &[u8], more: &[&str]) -> Run {
     run_fed(&[&["cut", "-", "-o", "-"], more].concat(), octets)
@@ -111,6 +110,7 @@ fn an_address_of_a_muted_peer_under_a_stand_in() {
     );
     muted(&octets, &[20]).silent_about("addresses of muted peers");
     muted(&octets, &[70_000, 0]).told("(peers 0, entries 0, records 1)");
+    muted(&octets, &[0]).told("192.0.2.1 of muted AS0 under AS23456 (");
     muted(&octets, &[70_000, 0, 23_456]).silent_about("addresses of muted peers");
     // The session gives the address, a table has it without a number.
     let turned = [change_at(3, 30, 7, 99), table_at(4, &[(0, 7)]), rib(5, &[0, 0])].concat();
@@ -151,19 +151,17 @@ fn strict_writes_nothing_where_there_is_a_warning() {
     assert_eq!(folder.read("out"), change(1, 20));
 }
 
-/// No work of the shell grows with the numbers times anything.
+/// No work of the shell grows with the numbers times anything: these would take hours.
 #[test]
-fn a_million_numbers_take_no_longer_than_they_are_read() {
-    let folder = Folder::new("million");
-    let octets: Vec<u8> = (1..=20_000).flat_map(|number| change(1, number)).collect();
+fn millions_of_numbers_and_thousands_of_peers() {
+    let folder = Folder::new("millions");
+    let octets: Vec<u8> = (1..=60_000).flat_map(|number| change(1, number)).collect();
     let file = folder.file("dump", &octets);
-    let list = list(&folder, 1_000_000..2_000_000);
+    let list = list(&folder, 1_000_000..4_000_000);
     for option in ["--mute-file", "--only-file"] {
-        let start = Instant::now();
         let (out, report) = (folder.word("out"), folder.word("report"));
         let order = ["cut", &file, option, &list, "-fo", &out, "--report", &report];
         let run = run(&order).ended(0);
-        assert!(start.elapsed() < Duration::from_secs(20), "{:?}", start.elapsed());
-        assert!(run.err.lines().count() < 20_100);
+        assert!(run.err.lines().count() < 60_100);
     }
 }

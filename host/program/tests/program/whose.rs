@@ -136,6 +136,23 @@ fn addresses_from_a_file() {
         .told("bad: line 2: '192.0.2' is no IP address");
 }
 
+/// The library finds 65,535 numbers at once; a longer list is one list all the same.
+#[test]
+fn a_list_of_any_length_is_one_list() {
+    let folder = Folder::new("long-list");
+    let peers = [100_000, 165_534, 165_535, 200_000, 231_069, 231_070, 299_999, 300_000, 10];
+    let indexes: Vec<u16> = (0..9).collect();
+    let octets = [table(1, &peers), rib(2, &indexes), rib(9, &indexes), change(3, 10)].concat();
+    for count in [65_534, 65_535, 65_536, 131_069, 131_070, 131_071, 200_000] {
+        let numbers: Vec<u32> = (100_000..100_000 + count).collect();
+        let text: String = numbers.iter().rev().map(|number| format!("{number}\n")).collect();
+        let list = folder.file("list", text.as_bytes());
+        let run = cut(&octets, &["--mute-file", &list, "--to=5.0"]).ended(0);
+        let left = second::cut::cut(&octets, 0, 5_000_000, &numbers, octets.len()).octets;
+        assert_eq!(run.out, left, "{count}");
+    }
+}
+
 /// The order of the lists on standard input and of the dump in a file.
 #[test]
 fn a_list_on_standard_input() {
