@@ -1,5 +1,6 @@
 //! The command that says whether a recording is good, and what is in it.
 
+use crate::beside::both;
 use crate::input::{Reading, Recording};
 use crate::moment;
 use crate::show::{self, Out};
@@ -9,9 +10,9 @@ use std::io::{self, Write};
 
 pub fn check(reading: &Reading) -> Result<(), Stop> {
     let recording = show::read(reading)?;
-    let check = dagsumilat::check(&recording.octets);
+    let (dump, count) = (&recording.octets, || Tally::of(&recording.octets));
+    let (tally, check) = both(count, || dagsumilat::check(dump));
     show::end(&recording, check.refusal)?;
-    let tally = Tally::of(&recording.octets);
     show::print(|out| write(&recording, &tally, out))
 }
 

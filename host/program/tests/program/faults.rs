@@ -198,3 +198,14 @@ fn nothing_stands_before_a_fault_at_the_start() {
         .told("No good record stands before")
         .silent_about("head -c");
 }
+
+/// An ORIGIN of one octet whose flags ask for a length of two.
+#[test]
+fn the_advice_for_attributes_names_what_bird_does() {
+    let dump = table_dump(1, 10, &[0x50, 1, 1, 0]);
+    run_fed(&["check", "-"], &dump)
+        .ended(1)
+        .told("fault 11 at octet 34 ")
+        .told("Often: BIRD 2.0.7, which in table dumps sets the flag for a length of two octets");
+    run_fed(&["check", "-"], &table_dump(1, 10, &[0x50, 1, 0, 1, 0])).ended(0);
+}
