@@ -47,7 +47,7 @@ pub fn run_short(kilobytes: u32, arguments: &[&str], input: &[u8]) -> Run {
 
 /// Whatever the kilobytes, the words are these, or there was enough.
 pub fn assert_short(arguments: &[&str], input: &[u8], enough: u32) {
-    for kilobytes in (10_000..90_000).step_by(4_000) {
+    for kilobytes in (20_000..90_000).step_by(4_000) {
         let run = run_short(kilobytes, arguments, input);
         if run.status == Some(0) {
             assert!(kilobytes > enough, "{kilobytes}");
