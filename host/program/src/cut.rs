@@ -10,6 +10,7 @@ use crate::outcome::Outcome;
 use crate::output::{Draft, Target};
 use crate::progress::Progress;
 use crate::room::Room;
+use crate::sides::Sides;
 use crate::stop::{self, tell, Stop};
 use crate::tally::{Of, Tally};
 use crate::warnings::{Judged, Warning};
@@ -114,17 +115,19 @@ struct Counted<'a> {
 }
 
 impl Counted<'_> {
-    fn warnings(&self, order: &CutOrder) -> Vec<Warning> {
-        let judged = Judged {
+    fn sides(&self, order: &CutOrder) -> Sides<'_> {
+        Sides {
             period: order.period,
             muting: &self.done.muting,
             before: &self.done.before,
             after: &self.after,
             peers_before: &self.done.peers,
             peers_after: &self.peers,
-            is_verbose: order.is_verbose,
-        };
-        judged.warnings()
+        }
+    }
+
+    fn warnings(&self, order: &CutOrder) -> Vec<Warning> {
+        Judged { sides: self.sides(order), is_verbose: order.is_verbose }.warnings()
     }
 
     /// The library has left out all muted numbers; that they are all who should go is the shell's
@@ -159,12 +162,7 @@ fn finish(
     let name = clip_name(order);
     let outcome = Outcome {
         clip: &name,
-        period: order.period,
-        muting: &counted.done.muting,
-        before: &counted.done.before,
-        after: &counted.after,
-        peers_before: &counted.done.peers,
-        peers_after: &counted.peers,
+        sides: counted.sides(order),
         octets: (recording.octets.len() as u64, counted.done.clip.len() as u64),
         is_brief: order.is_brief,
     };

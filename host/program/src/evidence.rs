@@ -34,7 +34,7 @@ impl Evidence<'_> {
             ("dump", sized(self.recording.octets.len(), &dump)),
             ("clip", self.clip(&clip)),
             ("counts", self.counts()),
-            ("peers_left", Json::list(outcome.peers_after, peer)),
+            ("peers_left", Json::list(outcome.sides.peers_after, peer)),
             ("peers_muted", Json::list(outcome.gone(), peer)),
             ("warnings", Json::list(self.warnings, warning)),
             ("note", Json::text(PATHS)),
@@ -50,7 +50,7 @@ impl Evidence<'_> {
     fn order(&self) -> Json {
         let words = self.order.given.iter().map(|word| word.to_string_lossy());
         let given = ["cut".into()].into_iter().chain(words);
-        let Muting { numbers, addresses, agreed } = self.outcome.muting;
+        let Muting { numbers, addresses, agreed } = self.outcome.sides.muting;
         let period = self.order.period;
         Json::Object(vec![
             ("given", Json::list(given, Json::text)),
@@ -89,7 +89,7 @@ impl Evidence<'_> {
 
     fn counts(&self) -> Json {
         let outcome = self.outcome;
-        let records = ("records", outcome.before.records(), outcome.after.records());
+        let records = ("records", outcome.sides.before.records(), outcome.sides.after.records());
         let rows = [records].into_iter().chain(outcome.rows());
         let row = |(name, before, after)| {
             Json::Object(vec![
@@ -101,7 +101,7 @@ impl Evidence<'_> {
         };
         Json::Object(vec![
             ("rows", Json::list(rows, row)),
-            ("rib_records_without_entries_kept", Json::Number(outcome.after.empty_ribs)),
+            ("rib_records_without_entries_kept", Json::Number(outcome.sides.after.empty_ribs)),
         ])
     }
 }

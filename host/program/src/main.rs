@@ -39,6 +39,7 @@ mod room;
 mod session_report;
 mod session_table;
 mod show;
+mod sides;
 mod size;
 mod stop;
 #[allow(unsafe_code)]

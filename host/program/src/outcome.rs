@@ -2,10 +2,9 @@
 
 use crate::muting::{Muting, Resolved};
 use crate::number::grouped;
-use crate::period::Period;
-use crate::tally::{Count, Of, Tally, KINDS};
+use crate::sides::Sides;
+use crate::tally::{Count, Of, KINDS};
 use dagsumilat::Kind;
-use std::collections::BTreeMap;
 use std::fmt::Write;
 
 /// As many lines of a list are shown if it is to be brief.
@@ -20,12 +19,7 @@ pub type Row = (&'static str, u64, u64);
 /// A dump before and after its cut.
 pub struct Outcome<'a> {
     pub clip: &'a str,
-    pub period: Period,
-    pub muting: &'a Muting,
-    pub before: &'a Tally,
-    pub after: &'a Tally,
-    pub peers_before: &'a BTreeMap<u32, Of>,
-    pub peers_after: &'a BTreeMap<u32, Of>,
+    pub sides: Sides<'a>,
     /// Octets before and after.
     pub octets: (u64, u64),
     pub is_brief: bool,
@@ -34,16 +28,16 @@ pub struct Outcome<'a> {
 impl Outcome<'_> {
     /// Kept and gone, who was muted, who is left.
     pub fn report(&self) -> String {
-        let (before, after) = (self.before.records(), self.after.records());
-        let (clip, period) = (self.clip, self.period.shown());
+        let (before, after) = (self.sides.before.records(), self.sides.after.records());
+        let (clip, period) = (self.clip, self.sides.period.shown());
         let mut text = format!("{clip}: {after} of {before} records kept, {period}\n");
         text.push_str(&self.kept_and_gone());
         text.push_str(&self.muted());
         text.push_str(&self.out_of_reach());
-        let left = self.peers_after.iter();
+        let left = self.sides.peers_after.iter();
         let _ = writeln!(text, "  peer AS numbers still in the clip: {}", left.len());
         text.push_str(&self.lines(left.map(as_line)));
-        if !self.muting.numbers.is_empty() {
+        if !self.sides.muting.numbers.is_empty() {
             let _ = writeln!(text, "  {PATHS}");
         }
         text.pop();
@@ -52,7 +46,7 @@ impl Outcome<'_> {
 
     /// What is counted, in the order in which it is shown.
     pub fn rows(&self) -> Vec<Row> {
-        let (before, after) = (self.before, self.after);
+        let (before, after) = (self.sides.before, self.sides.after);
         let kinds = KINDS.iter().zip(before.kinds).zip(after.kinds);
         let mut rows: Vec<Row> = kinds.map(|(((_, name), old), new)| (*name, old, new)).collect();
         rows.push(("RIB entries", before.entries, after.entries));
@@ -71,16 +65,17 @@ impl Outcome<'_> {
 
     /// The muted, by rising number, as they stood in the dump.
     pub fn gone(&self) -> impl Iterator<Item = (&u32, &Of)> {
-        self.peers_before
+        self.sides
+            .peers_before
             .iter()
-            .filter(|(number, _)| self.muting.numbers.binary_search(number).is_ok())
+            .filter(|(number, _)| self.sides.muting.numbers.binary_search(number).is_ok())
     }
 
     fn muted(&self) -> String {
-        let Muting { numbers, addresses, agreed } = self.muting;
+        let Muting { numbers, addresses, agreed } = self.sides.muting;
         let mut text = String::new();
         if let Some(agreed) = agreed {
-            let here = agreed.iter().filter(|it| self.peers_before.contains_key(it)).count();
+            let here = agreed.iter().filter(|it| self.sides.peers_before.contains_key(it)).count();
             let _ = writeln!(
                 text,
                 "  AS numbers that agreed: {}, in the dump: {here}; every other peer AS of the dump \
@@ -103,12 +98,12 @@ impl Outcome<'_> {
 
     /// What no mute takes, where there is one: that it stays should be no surprise.
     fn out_of_reach(&self) -> String {
-        if self.muting.numbers.is_empty() {
+        if self.sides.muting.numbers.is_empty() {
             return String::new();
         }
-        let unread = self.after.kinds[Kind::Unread as usize];
+        let unread = self.sides.after.kinds[Kind::Unread as usize];
         let rows = [
-            ("RIB records that came with no entries, and stay", self.after.empty_ribs),
+            ("RIB records that came with no entries, and stay", self.sides.after.empty_ribs),
             ("records of OSPF and IS-IS, which have no peer AS, and stay", unread),
         ];
         let rows = rows.iter().filter(|(_, count)| *count > 0);

@@ -4,7 +4,8 @@ use crate::moment;
 use crate::muting::Muting;
 use crate::number::grouped;
 use crate::period::Period;
-use crate::tally::{Count, Of, Peer, Tally};
+use crate::sides::Sides;
+use crate::tally::{Count, Peer};
 use std::collections::{BTreeMap, BTreeSet, HashMap};
 use std::net::IpAddr;
 
@@ -34,12 +35,7 @@ const FEW: usize = 3;
 
 /// A cut, as far as it can be judged.
 pub struct Judged<'a> {
-    pub period: Period,
-    pub muting: &'a Muting,
-    pub before: &'a Tally,
-    pub after: &'a Tally,
-    pub peers_before: &'a BTreeMap<u32, Of>,
-    pub peers_after: &'a BTreeMap<u32, Of>,
+    pub sides: Sides<'a>,
     pub is_verbose: bool,
 }
 
@@ -59,7 +55,7 @@ impl Judged<'_> {
     }
 
     fn is_muted(&self, number: u32) -> bool {
-        self.muting.numbers.binary_search(&number).is_ok()
+        self.sides.muting.numbers.binary_search(&number).is_ok()
     }
 
     /// A few items in a row; for more, how many they are. All of them, if that is asked for.
@@ -70,9 +66,10 @@ impl Judged<'_> {
     /// Muted numbers that no peer has. One that is somebody's local AS is no typing error.
     fn hit_nobody(&self) -> Option<Warning> {
         let hit = |number: &u32| {
-            self.peers_before.contains_key(number) || self.before.local.contains_key(number)
+            self.sides.peers_before.contains_key(number)
+                || self.sides.before.local.contains_key(number)
         };
-        let all = &self.muting.numbers;
+        let all = &self.sides.muting.numbers;
         let missed: Vec<String> =
             all.iter().filter(|it| !hit(it)).map(|number| format!("AS{number}")).collect();
         if missed.is_empty() {
@@ -89,7 +86,7 @@ impl Judged<'_> {
     }
 
     fn addresses_of_nobody(&self) -> Option<Warning> {
-        let all = &self.muting.addresses;
+        let all = &self.sides.muting.addresses;
         let missed: Vec<String> = all
             .iter()
             .filter(|resolved| resolved.numbers.is_empty())
@@ -105,7 +102,7 @@ impl Judged<'_> {
 
     /// A slip in a date leaves a clip that looks well.
     fn emptied(&self) -> Option<Warning> {
-        let span = self.before.span.filter(|_| self.after.span.is_none())?;
+        let span = self.sides.before.span.filter(|_| self.sides.after.span.is_none())?;
         let (first, last) = (moment::shown(span.first), moment::shown(span.last));
         Some(minor(format!(
             "no record but peer tables is left; the others of the dump are from {first} to {last}"
@@ -113,7 +110,8 @@ impl Judged<'_> {
     }
 
     fn nothing_ordered(&self) -> Option<Warning> {
-        let is_whole = self.period == Period::default() && *self.muting == Muting::default();
+        let is_whole =
+            self.sides.period == Period::default() && *self.sides.muting == Muting::default();
         is_whole.then(|| {
             serious("no time and no peer was ordered: the clip is the whole recording".to_string())
         })
@@ -123,9 +121,9 @@ impl Judged<'_> {
     /// has 16 bits anyway is never left.
     fn shortened(&self) -> Option<Warning> {
         let mut left = BTreeMap::new();
-        for number in self.muting.numbers.iter().filter(|number| **number > 0xffff) {
+        for number in self.sides.muting.numbers.iter().filter(|number| **number > 0xffff) {
             let short = number & 0xffff;
-            if self.peers_after.contains_key(&short) {
+            if self.sides.peers_after.contains_key(&short) {
                 left.entry(short).or_insert(*number);
             }
         }
@@ -146,7 +144,7 @@ impl Judged<'_> {
 
     /// A session has two ends, and the muted one may be the other.
     fn local(&self) -> Option<Warning> {
-        let local = &self.after.local;
+        let local = &self.sides.after.local;
         let mut left: Vec<_> = local.iter().filter(|(number, _)| self.is_muted(**number)).collect();
         if left.is_empty() {
             return None;
@@ -169,7 +167,7 @@ impl Judged<'_> {
 
     /// The addresses of muted peers, as tables and sessions of the dump gave them.
     fn muted_addresses(&self) -> HashMap<IpAddr, u32> {
-        let peers = self.before.by_peer.keys();
+        let peers = self.sides.before.by_peer.keys();
         let muted = peers.filter(|peer| self.is_muted(peer.as_number));
         let mut addresses = HashMap::new();
         for Peer { as_number, address } in muted {
@@ -183,7 +181,7 @@ impl Judged<'_> {
     fn under_stand_ins(&self) -> Option<Warning> {
         let muted = self.muted_addresses();
         let (mut found, mut sum) = (BTreeSet::new(), Count::default());
-        for (peer, count) in &self.after.by_peer {
+        for (peer, count) in &self.sides.after.by_peer {
             if let Some(number) =
                 muted.get(&peer.address).filter(|_| STAND_INS.contains(&peer.as_number))
             {
@@ -213,19 +211,19 @@ impl Judged<'_> {
 
     /// Where somebody is to be muted, these may be them.
     fn stand_ins(&self) -> Vec<Warning> {
-        if *self.muting == Muting::default() {
+        if *self.sides.muting == Muting::default() {
             return Vec::new();
         }
         let mut warnings = Vec::new();
-        if self.peers_after.contains_key(&0) {
+        if self.sides.peers_after.contains_key(&0) {
             warnings.push(serious(
                 "AS0 is still in the clip: often the collector itself, or a peer whose AS was not \
                  known yet"
                     .to_string(),
             ));
         }
-        if self.peers_after.contains_key(&AS_TRANS) {
-            let wide = self.muting.numbers.iter().any(|number| *number > 0xffff);
+        if self.sides.peers_after.contains_key(&AS_TRANS) {
+            let wide = self.sides.muting.numbers.iter().any(|number| *number > 0xffff);
             let who = if wide { "a muted one too" } else { "anybody with a 4-octet AS" };
             warnings.push(serious(format!(
                 "AS{AS_TRANS} is still in the clip: it stands for an AS that needs 4 octets, so it \
