@@ -130,16 +130,13 @@ impl Counted<'_> {
         Judged { sides: self.sides(order), is_verbose: order.is_verbose }.warnings()
     }
 
-    /// The library has left out all muted numbers; that they are all who should go is the shell's
-    /// word, so it is looked at once more.
-    fn refuse_strangers(&self) -> Result<(), Stop> {
-        let Some(agreed) = &self.done.muting.agreed else {
-            return Ok(());
-        };
-        match self.peers.keys().find(|number| agreed.binary_search(number).is_err()) {
+    /// The library leaves out the numbers that it is given; that these are all who should go is the
+    /// shell's word, so the clip is looked at once more.
+    fn refuse_left(&self) -> Result<(), Stop> {
+        match self.done.muting.left_in(&self.peers) {
             None => Ok(()),
             Some(number) => Err(Stop::Trouble(format!(
-                "nothing is written: AS{number} has not agreed and is in the clip; please report this"
+                "nothing is written: AS{number} should not be in the clip, and is; please report this"
             ))),
         }
     }
@@ -153,7 +150,7 @@ fn finish(
     mut warnings: Vec<Warning>,
     draft: Option<Draft>,
 ) -> Result<(), Stop> {
-    counted.refuse_strangers()?;
+    counted.refuse_left()?;
     let doubts = order.doubts.iter().cloned();
     warnings.extend(doubts.map(|words| Warning { is_serious: true, words }));
     warnings.extend(counted.warnings(order));

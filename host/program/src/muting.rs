@@ -92,6 +92,17 @@ pub fn files(whose: &Whose) -> Vec<&Source> {
     }
 }
 
+impl Muting {
+    /// Somebody who must not be in a clip that has these peers.
+    pub fn left_in(&self, peers: &BTreeMap<u32, Of>) -> Option<u32> {
+        let is_muted = |number: &u32| self.numbers.binary_search(number).is_ok();
+        let is_stranger = |number: &u32| {
+            self.agreed.as_ref().is_some_and(|agreed| agreed.binary_search(number).is_err())
+        };
+        peers.keys().copied().find(|number| is_muted(number) || is_stranger(number))
+    }
+}
+
 impl Wanted {
     /// The numbers, if nobody has to be looked up in the dump for them.
     pub fn at_once(&self) -> Option<Muting> {
@@ -202,6 +213,21 @@ mod tests {
         assert_eq!(muting.numbers, [10, 30, 23_456]);
         let nobody = Wanted::AllBut(Vec::new()).resolve(&peers(), false).unwrap();
         assert_eq!(nobody.numbers, [10, 20, 30, 23_456]);
+    }
+
+    #[test]
+    fn who_is_left_is_seen() {
+        let muting = |numbers: &[u32], agreed: Option<&[u32]>| Muting {
+            numbers: numbers.to_vec(),
+            addresses: Vec::new(),
+            agreed: agreed.map(<[u32]>::to_vec),
+        };
+        assert_eq!(muting(&[], None).left_in(&peers()), None);
+        assert_eq!(muting(&[7, 40], None).left_in(&peers()), None);
+        assert_eq!(muting(&[7, 30], None).left_in(&peers()), Some(30));
+        assert_eq!(muting(&[], Some(&[10, 20, 30, 23_456])).left_in(&peers()), None);
+        assert_eq!(muting(&[], Some(&[10, 30, 23_456])).left_in(&peers()), Some(20));
+        assert_eq!(muting(&[], Some(&[])).left_in(&BTreeMap::new()), None);
     }
 
     #[test]

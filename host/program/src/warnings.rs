@@ -40,7 +40,6 @@ pub struct Judged<'a> {
 }
 
 impl Judged<'_> {
-    /// The serious ones last.
     pub fn warnings(&self) -> Vec<Warning> {
         let mut warnings = Vec::new();
         warnings.extend(self.hit_nobody());
@@ -58,9 +57,16 @@ impl Judged<'_> {
         self.sides.muting.numbers.binary_search(&number).is_ok()
     }
 
-    /// A few items in a row; for more, how many they are. All of them, if that is asked for.
+    /// A few items in a row, or all of them if that is asked for; none if they are many.
     fn listed(&self, items: &[String]) -> Option<String> {
         (self.is_verbose || items.len() <= FEW).then(|| items.join(", "))
+    }
+
+    /// The same, with their number in place of many.
+    fn counted(&self, items: &[String], what: &str) -> String {
+        self.listed(items).unwrap_or_else(|| {
+            format!("{} {what} (--verbose lists them)", grouped(items.len() as u64))
+        })
     }
 
     /// Muted numbers that no peer has. One that is somebody's local AS is no typing error.
@@ -132,10 +138,7 @@ impl Judged<'_> {
         if pairs.is_empty() {
             return None;
         }
-        let listed = self.listed(&pairs);
-        let listed = listed.unwrap_or_else(|| {
-            format!("{} numbers (--verbose lists them)", grouped(pairs.len() as u64))
-        });
+        let listed = self.counted(&pairs, "numbers");
         Some(serious(format!(
             "still in the clip, and what is left of a muted number in 16 bits: {listed}\n  \
              Some producers write that; see whose records they are"
@@ -153,10 +156,8 @@ impl Judged<'_> {
         let records: u64 = left.iter().map(|(_, records)| **records).sum();
         let named =
             |(number, records): &(&u32, &u64)| format!("AS{number} of {}", grouped(**records));
-        let listed = self.listed(&left.iter().map(named).collect::<Vec<_>>());
-        let listed = listed.unwrap_or_else(|| {
-            format!("{} muted numbers (--verbose lists them)", grouped(left.len() as u64))
-        });
+        let named: Vec<String> = left.iter().map(named).collect();
+        let listed = self.counted(&named, "muted numbers");
         Some(serious(format!(
             "muted, and the local AS of {} record(s) still in the clip: {listed}\n  \
              OpenBGPD puts its own AS in the peer's place, and dumps of sent messages name the \
@@ -195,9 +196,8 @@ impl Judged<'_> {
         let named = |(address, muted, left): &(IpAddr, u32, u32)| {
             format!("{address} of muted AS{muted} under AS{left}")
         };
-        let listed = self.listed(&found.iter().map(named).collect::<Vec<_>>());
-        let listed = listed
-            .unwrap_or_else(|| format!("{} (--verbose lists them)", grouped(found.len() as u64)));
+        let named: Vec<String> = found.iter().map(named).collect();
+        let listed = self.counted(&named, "addresses");
         let Count { peers, entries, records, .. } = sum;
         Some(serious(format!(
             "addresses of muted peers still stand in the clip under AS0 or AS{AS_TRANS}: {listed} \

@@ -90,9 +90,6 @@ impl CutWords {
             return Err("where to? -o OUT is missing".to_string());
         }
         let report = self.report.map(|word| Target::of_word(&word, force));
-        if report.is_some() && target == report {
-            return Err("OUT and the report need two names".to_string());
-        }
         let files = [&self.mute.files, &self.addresses.files, &self.only.files];
         refuse_standard_twice(self.reading.sources.iter().chain(files.into_iter().flatten()))?;
         let mut reading = self.reading.reading()?;

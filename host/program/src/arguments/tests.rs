@@ -138,7 +138,6 @@ fn what_is_missing_or_said_twice() {
     assert_misuse("cut a -o b --mute 1,2", "--mute: '1,2' is no AS number");
     assert_misuse("cut a -o b --mute-address 1.2.3", "--mute-address: '1.2.3' is no IP address");
     assert_misuse("cut - --mute-file - -o b", "standard input (-) more than once");
-    assert_misuse("cut a -o b --report b", "two names");
 }
 
 #[test]

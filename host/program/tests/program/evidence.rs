@@ -197,7 +197,8 @@ fn it_is_written_with_the_clip_or_not_at_all() {
     let order = |report: &str| run(&["cut", SAMPLE, "--from=0", "-o", &out, "--report", report]);
     order(&folder.word("none/report")).ended(2).told("its folder");
     order(SAMPLE).ended(2).told("it is an input");
-    order(&out).ended(2).told("two names");
+    order(&out).ended(2).told("it is OUT too");
+    run(&["cut", SAMPLE, "--from=0", "-o", "-", "--report", "-"]).ended(2).told("it is OUT too");
     fs::create_dir(folder.path("inner")).unwrap();
     order(&folder.word("inner/../clip")).ended(2).told("it is OUT too");
     fs::remove_dir(folder.path("inner")).unwrap();
