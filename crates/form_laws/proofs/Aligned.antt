@@ -22,6 +22,8 @@ unfolding Full Aligned
 full-aligned (end b) [] h = refl
 full-aligned (test n b f) vs h = λ e. full-aligned f vs (h e)
 full-aligned (field x l b k) (v ∷ vs) h = inl (h.0, full-aligned (k _) vs h.1)
+full-aligned (end b) (v ∷ vs) h = elim h [ ]
+full-aligned (field x l b k) [] h = elim h [ ]
 
 -- one of two formats, each where its test holds
 pub choose_case : (P : Fmt → Type 0) (b : Bool) (f g : Fmt) → (b ≡ true → P f) → (b ≡ false → P g) → P (choose b f g)

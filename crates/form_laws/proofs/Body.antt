@@ -80,3 +80,9 @@ complete_body (many f g) at (listed cs its) h =
     let g2 : 2 ≤ length (to_be 2 n ++ joins its) = simp length-append (omega arith) in
     let e : read_n g n (at + length (join cs) + 2) (joins its) ≡ good its [] = rw append-nil at (complete_n g (at + length (join cs) + 2) its [] h.2) in
     rw (complete f at cs (to_be 2 n ++ joins its) h.0, le-ltb _ _ g2, take_at (to_be 2 n) (joins its) 2 l, drop_at (to_be 2 n) (joins its) 2 l, be-to_be 2 n h.1, e)
+complete_body (just f) at (loose cs r) h = elim h [ ]
+complete_body (just f) at (listed cs its) h = elim h [ ]
+complete_body (free f) at (plain cs) h = elim h [ ]
+complete_body (free f) at (listed cs its) h = elim h [ ]
+complete_body (many f g) at (plain cs) h = elim h [ ]
+complete_body (many f g) at (loose cs r) h = elim h [ ]

@@ -9,7 +9,7 @@ use lib.ListN.{length, drop, length-append, length-drop}
 use lib.Seq.{drop-length, drop_at, drop-drop}
 use Rattle.form_spec.specs.Octets.{Octets}
 use Rattle.form_spec.specs.Fmt.{Out, bad, good, Fits}
-use Rattle.form_spec.specs.Body.{Body, plain, BodyFits}
+use Rattle.form_spec.specs.Body.{Body, plain, BodyFits, loose, listed}
 use Rattle.form_spec.specs.Shape.{Layout, refuse, fields, unread, table, entries, St, no_table, with_peers, plan, after}
 use Rattle.form_spec.specs.Record.{Rec, write, size, read_rec, Valid, layout_of, next}
 use Rattle.form_spec.specs.Dump.{Walk, stop, before, step, writes, walk, walk_from, walk_all, Valids, Splits, nexts}
@@ -44,6 +44,9 @@ fits_shut no_table su (fields f) b z h = h
 fits_shut no_table su (unread f) b z h = h
 fits_shut no_table su (table f g) b z h = h
 fits_shut no_table su (entries f g) (plain cs) z h = absurd (omega (arith, h.0))
+fits_shut no_table su (entries f g) (loose _ _) z h = elim h [ ]
+fits_shut no_table su (entries f g) (listed _ _) z h = elim h [ ]
+fits_shut (with_peers _) su l b z h = elim z [ ]
 
 pub after_below : (l : Layout) (b : Body) (st su : St) → Below st su → Below (after l b st) (after l b su)
 unfolding after

@@ -67,9 +67,13 @@ unfolding read Fits
 complete (end b) at [] r h = refl
 complete (test n b f) at cs r h = rw h.0 (complete f at cs r h.1)
 complete (field x l b k) at (c ∷ cs) r h = rw (append_assoc c (join cs) r) (read_field x l b k at c (join cs ++ r) h.0 ∙ rw (complete (k c) (at + l) cs r h.2))
+complete (end b) at (c ∷ cs) r h = elim h [ ]
+complete (field x l b k) at [] r h = elim h [ ]
 
 pub fits-octets : (f : Fmt) (cs : List (List ℕ)) → Fits f cs → Octets (join cs)
 unfolding Fits
 fits-octets (end b) [] h = tt
 fits-octets (test n b f) cs h = fits-octets f cs h.1
 fits-octets (field x l b k) (c ∷ cs) h = octets-append c (join cs) h.1 (fits-octets (k c) cs h.2)
+fits-octets (end b) (c ∷ cs) h = elim h [ ]
+fits-octets (field x l b k) [] h = elim h [ ]

@@ -31,6 +31,7 @@ here_of f n bs oc h = go (read_n f n 0 bs) h (sound_n f n 0 bs oc)
   where
     go : (o : Out (List (List (List ℕ)))) → Accepted o → Right (Items f n) joins bs o → Here f n bs (found o) (left o)
     go (good its r) a q = record { fits = q.0.0; many = q.0.1; lie = q.1 }
+    go (bad fault place) a q = elim a [ ]
 
 pub lie_of : (f : Fmt) (n : ℕ) (bs : List ℕ) (its : List (List (List ℕ))) (rest : List ℕ) → Here f n bs its rest → Lie f n bs × (items f n bs ≡ its)
 unfolding Lie items
@@ -42,6 +43,7 @@ fits_of f bs oc h = go (read f 0 bs) h (sound f 0 bs oc)
   where
     go : (o : Out (List (List ℕ))) → Accepted o → Right (Fits f) join bs o → Fits f (found o) × (rest : List ℕ) × (join (found o) ++ rest ≡ bs)
     go (good cs r) a q = (q.0, r, q.1)
+    go (bad fault place) a q = elim a [ ]
 
 pub of_fits : (f : Fmt) (bs : List ℕ) (it : List (List ℕ)) (rest : List ℕ) → Fits f it → join it ++ rest ≡ bs → Lies f bs × (item f bs ≡ it)
 unfolding Lies item

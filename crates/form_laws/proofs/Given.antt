@@ -39,6 +39,8 @@ type-valid st (fields f) b h = refl
 type-valid st (unread f) b h = refl
 type-valid st (table f g) b h = refl
 type-valid st (entries f g) b h = refl
+type-valid st (refuse n k) (loose _ _) h = elim h [ ]
+type-valid st (refuse n k) (listed _ _) h = elim h [ ]
 
 items-valid : (g : Fmt) (its : List (List (List ℕ))) → AllFits g its → fault_of (read_n g (length its) 0 (joins its)) ≡ 0
 items-valid g its h =
@@ -52,6 +54,12 @@ body-valid (free f) (loose cs r) vs h e q = fits-refusal f vs h (rw e q.0)
 body-valid (many f g) (listed cs its) vs h e q =
     zero-or_else (refusal f vs) _ (fits-refusal f vs h (rw e q.0))
     (zero-or_else (large 2 (length its)) _ (zero_large 2 (length its) q.1) (items-valid g its q.2))
+body-valid (just f) (loose cs r) vs h e q = elim q [ ]
+body-valid (just f) (listed cs its) vs h e q = elim q [ ]
+body-valid (free f) (plain cs) vs h e q = elim q [ ]
+body-valid (free f) (listed cs its) vs h e q = elim q [ ]
+body-valid (many f g) (plain cs) vs h e q = elim q [ ]
+body-valid (many f g) (loose cs r) vs h e q = elim q [ ]
 
 -- ---- what is not refused is shown
 

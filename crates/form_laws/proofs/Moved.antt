@@ -90,6 +90,8 @@ Moved a I (good x r) (good y s) = (x ≡ y) × (r ≡ s)
 pub moved-fault : {A : Type 0} (a : ℕ) (I : Type 0) (o u : Out A) → Moved a I o u → fault_of o ≡ fault_of u
 moved-fault a I (bad n p) (bad m q) h = h.0
 moved-fault a I (good x r) (good y s) h = rw h.1
+moved-fault {A = A} a I (bad n p) (good y s) h = elim h [ ]
+moved-fault {A = A} a I (good x r) (bad m q) h = elim h [ ]
 
 abbrev pub moved : {A : Type 0} → ℕ → Out A → Out A
 moved a (bad n p) = bad n (a + p)
@@ -99,16 +101,22 @@ moved a (good x r) = good x r
 pub is_moved : {A : Type 0} (a : ℕ) (I : Type 0) (o u : Out A) → Moved a I o u → I → o ≡ moved a u
 is_moved a I (bad n p) (bad m q) h i = rw (h.0, h.1 i)
 is_moved a I (good x r) (good y s) h i = rw (h.0, h.1)
+is_moved {A = A} a I (bad n p) (good y s) h i = elim h [ ]
+is_moved {A = A} a I (good x r) (bad m q) h i = elim h [ ]
 
 module _ (a : ℕ) where
   moved_if : {A : Type 0} (I J : Type 0) (o u : Out A) → (I → J) → Moved a J o u → Moved a I o u
   moved_if I J (bad n p) (bad m q) f h = (h.0, λ i. h.1 (f i))
   moved_if I J (good x r) (good y s) f h = h
+  moved_if {A = A} I J (bad n p) (good y s) f h = elim h [ ]
+  moved_if {A = A} I J (good x r) (bad m q) f h = elim h [ ]
 
   moved-bind : {A B : Type 0} (I : Type 0) (o u : Out A) (k j : A → List ℕ → Out B) → Moved a I o u → ((x : A) (r : List ℕ) → u ≡ good x r → Moved a I (k x r) (j x r))
       → Moved a I (bind o k) (bind u j)
   moved-bind I (bad n p) (bad m q) k j e h = e
   moved-bind I (good x r) (good y s) k j e h = rw (e.0, e.1) (h y s refl)
+  moved-bind {A = A} {B = B} I (bad n p) (good y s) k j e h = elim e [ ]
+  moved-bind {A = A} {B = B} I (good x r) (bad m q) k j e h = elim e [ ]
 
   moved_refuse : {A : Type 0} (I : Type 0) (t : Bool) (n p q : ℕ) (o u : Out A) → (I → p ≡ a + q) → Moved a I o u → Moved a I (refuse_if t n p o) (refuse_if t n q u)
   moved_refuse I true n p q o u e h = (refl, e)

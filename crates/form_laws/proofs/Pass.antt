@@ -77,6 +77,9 @@ module _ {A : Type 0} where
           let q : length (drop i m) < suc l = rw length-drop (omega arith) in
           rw (lt-ltb _ _ p, lt-ltb _ _ q)
       go false e = pass-read to fault (field x (suc l) b k) m i (ltb-false (length m) i e)
+  pass_opens to fault (end back) m i o = elim o [ ]
+  pass_opens to fault (test _ back _) m i o = elim o [ ]
+  pass_opens to fault (field x zero b k) m i o = elim o [ ]
 
   -- where the fields of the format stand, there is no fault
   pub pass_fits : (to : List Seen → ℕ → ℕ → A) (fault : ℕ → ℕ → A) (f : Fmt) (m : List ℕ) (i : ℕ) (cs : List (List ℕ)) (r : List ℕ) → i ≤ length m → Fits f cs → join cs ++ r ≡ drop i m

@@ -86,3 +86,5 @@ unfolding refusal Fits
 fits-refusal (end b) [] h q = refl
 fits-refusal (test n b f) vs h q = zero-or_else n _ q.0 (fits-refusal f vs h q.1)
 fits-refusal (field x l b k) (v ∷ vs) h q = zero-or_else (misfit v l) _ (zero-misfit v l h.0 q.0) (fits-refusal (k (spelled v)) vs h.1 q.2)
+fits-refusal (end b) (v ∷ vs) h q = elim q [ ]
+fits-refusal (field x l b k) [] h q = elim q [ ]

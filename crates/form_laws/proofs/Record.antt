@@ -33,6 +33,7 @@ header_is (t ∷ y ∷ s ∷ l ∷ []) h = (
   be_below 2 s h.2.2.0 h.2.2.1,
   be_below 4 l h.2.2.2.0 h.2.2.2.1,
 )
+header_is [] h = elim h [ ]
 
 fits_head : (r : Rec) (n : ℕ) → Fits header (head r n)
 unfolding Fits

@@ -88,6 +88,8 @@ full-read (field x l b k) at (v ∷ vs) raw h s =
     let q : List ℕ = join (lay vs) ++ raw in
     rw (append_assoc c (join (lay vs)) raw, read_field x l b k at c q s.0, zero-misfit v l h.0 s.0)
     (reads_as_kept (refusal (k c) vs) c (lay vs) raw (read (k c) (at + l) q) (full-read (k c) (at + l) vs raw h.1 s.1))
+full-read (end b) at (v ∷ vs) raw h s = elim s [ ]
+full-read (field x l b k) at [] raw h s = elim s [ ]
 
 -- what goes on with them
 reads_as_bind : {A : Type 0} (n : ℕ) (cs : List (List ℕ)) (raw : List ℕ) (k : List (List ℕ) → List ℕ → Out A) (o : Out (List (List ℕ))) → ReadsAs n cs raw o

@@ -1,7 +1,7 @@
 -- Of the table in force, reading looks at the number of peers only; an entry's index is below it.
 use mathlib.Core.Path.{◌≡◌, refl}
 use mathlib.Core.Bool.{Bool, true, false, cond}
-use mathlib.Core.List.{List, ◌∷◌}
+use mathlib.Core.List.{List, ◌∷◌, []}
 use Prim.Native.Nat.{ℕ, ◌<◌}
 use native.Mathlib.Omega.{arith}
 use lib.ListN.{length}
@@ -28,3 +28,4 @@ cond_ok false n z e = absurd (z e)
 pub entry_index : (n : ℕ) (g : Fmt) (it : List (List ℕ)) → Fits (indexed n g) it → (index_of it < n) × (index_of it < 65536)
 unfolding Fits checked
 entry_index n g (c ∷ cs) h = (ltb-true _ _ (cond_ok (ltb (be c) n) 13 (λ z. omega arith) h.2.0), be_below 2 c h.0 h.1)
+entry_index n g [] h = elim h [ ]
