@@ -12,7 +12,7 @@ use borrow.Author.Tests.{ltb-true, lt-ltb, leb-true, le-leb}
 use Rattle.form_spec.specs.Octets.{be}
 use Rattle.form_spec.specs.Fmt.{Fmt, Fits, join, find}
 use Rattle.form_spec.specs.Words.{checked}
-use Rattle.form_spec.specs.Body.{Body, plain, listed, joins, AllFits, spell, BodyFits}
+use Rattle.form_spec.specs.Body.{Body, plain, listed, joins, AllFits, spell, BodyFits, loose}
 use Rattle.form_spec.specs.Shape.{Layout, refuse, fields, unread, table, entries, St, no_table, with_peers, plan, after, micros_in, indexed, items_of, front_of, peer_as, as_of, index_of}
 use Rattle.form_spec.specs.Record.{Rec, write, Valid, layout_of, next, time_of}
 use Rattle.form_spec.specs.Dump.{writes, Valids, Splits, nexts}
@@ -32,6 +32,7 @@ cut_st c (with_peers ns) = with_peers (kept c.gone ns)
 cut_below : (c : Cut) (st su : St) → Below st su → Below (cut_st c st) (cut_st c su)
 cut_below c no_table su h = inl tt
 cut_below c (with_peers ns) su (inr e) = inr (ap (cut_st c) e)
+cut_below c (with_peers ns) su (inl x') = elim x' [ ]
 
 -- ---- one record
 
@@ -45,10 +46,12 @@ pub data CutIs (c : Cut) (st : St) (l : Layout) (b : Body) : Option Body → Typ
 entry-renumber : (n m j : ℕ) (g : Fmt) (it : List (List ℕ)) → Fits (indexed n g) it → j < m → j < 65536 → Fits (indexed m g) (renumber j it)
 unfolding Fits checked
 entry-renumber n m j g (c ∷ cs) h a b = (length-to_be 2 j, octets-to_be 2 j, (rw (be-to_be 2 j b, lt-ltb j m a), h.2.1))
+entry-renumber n m j g [] h a b = elim h [ ]
 
 pub renumber-length : (n j : ℕ) (g : Fmt) (it : List (List ℕ)) → Fits (indexed n g) it → length (join (renumber j it)) ≡ length (join it)
 unfolding Fits checked
 renumber-length n j g (c ∷ cs) h = simp (length-append, length-to_be) (omega (arith, h.0))
+renumber-length n j g [] h = elim h [ ]
 
 module _ (g : ℕ → Bool) (ns : List ℕ) (f : Fmt) where
   cut_entries-fit : (its : List (List (List ℕ))) → AllFits (indexed (length ns) f) its → AllFits (indexed (length (kept g ns)) f) (cut_entries g ns its)
@@ -121,6 +124,12 @@ cut_is c (with_peers ns) (entries f g) t (listed cs its) h =
     emptied_is c ns f g cs its (cut_entries c.gone ns its) (c.inside t)
     (h.0, omega arith, cut_entries-fit c.gone ns g its h.2)
     (spell_less cs its (cut_entries c.gone ns its) k.1)
+cut_is c st (table f g) t (plain cs) h = elim h [ ]
+cut_is c st (table f g) t (loose _ _) h = elim h [ ]
+cut_is c no_table (entries f g) t (loose _ _) h = elim h [ ]
+cut_is c no_table (entries f g) t (listed cs its) h = elim h [ ]
+cut_is c (with_peers ns) (entries f g) t (plain cs) h = elim h [ ]
+cut_is c (with_peers ns) (entries f g) t (loose _ _) h = elim h [ ]
 
 -- ---- a cut of a cut
 
@@ -130,6 +139,7 @@ both c d = record { gone = λ n. c.gone n || d.gone n; inside = λ t. c.inside t
 index_renumber : (n j : ℕ) (f : Fmt) (it : List (List ℕ)) → Fits (indexed n f) it → j < 65536 → index_of (renumber j it) ≡ j
 unfolding Fits checked
 index_renumber n j f (c ∷ cs) h k = be-to_be 2 j k
+index_renumber n j f [] h k = elim h [ ]
 
 renumber-renumber : (i j : ℕ) (it : List (List ℕ)) → renumber i (renumber j it) ≡ renumber i it
 renumber-renumber i j [] = refl
@@ -200,6 +210,12 @@ twice_body c d (with_peers ns) (entries f g) t (listed cs (x ∷ xs)) h =
     ∙ ap (when (c.inside t && d.inside t))
     (emptied_twice d.gone (kept c.gone ns) x xs (cut_entries c.gone ns (x ∷ xs)) cs
     ∙ ap (unless_emptied (x ∷ xs) cs) (cut_entries_twice c.gone d.gone ns g (x ∷ xs) h.2))
+twice_body c d st (table f g) t (plain cs) h = elim h [ ]
+twice_body c d st (table f g) t (loose _ _) h = elim h [ ]
+twice_body c d no_table (entries f g) t (loose _ _) h = elim h [ ]
+twice_body c d no_table (entries f g) t (listed cs its) h = elim h [ ]
+twice_body c d (with_peers ns) (entries f g) t (plain cs) h = elim h [ ]
+twice_body c d (with_peers ns) (entries f g) t (loose _ _) h = elim h [ ]
 
 body_shut : (c : Cut) (st : St) (ns : List ℕ) (l : Layout) (t : ℕ) (b : Body) → Shut st → BodyFits (plan st l) b → cut_body c (numbers st) l t b ≡ cut_body c ns l t b
 unfolding cut_body BodyFits plan Fits
@@ -208,6 +224,9 @@ body_shut c no_table ns (fields f) t b z h = refl
 body_shut c no_table ns (unread f) t b z h = refl
 body_shut c no_table ns (table f g) t b z h = refl
 body_shut c no_table ns (entries f g) t (plain cs) z h = absurd (omega (arith, h.0))
+body_shut c no_table ns (entries f g) t (loose _ _) z h = elim h [ ]
+body_shut c no_table ns (entries f g) t (listed _ _) z h = elim h [ ]
+body_shut c (with_peers _) ns l t b z h = elim z [ ]
 
 rebody_same : (r : Rec) (y : Body) (o : Option Body) (rs : List Rec) → rebody (record { stamp = r.stamp; type = r.type; sub = r.sub; body = y }) o rs ≡ rebody r o rs
 rebody_same r y none rs = refl

@@ -7,7 +7,7 @@ use lib.ListN.{length, take, drop, length-append}
 use lib.Seq.{take_at, drop_at, drop-drop, take-append_seam}
 use Rattle.form_spec.specs.Octets.{to_be}
 use Rattle.form_spec.specs.Fmt.{Fmt, join}
-use Rattle.form_spec.specs.Body.{Body, listed, many, joins, spell, AllFits, BodyFits}
+use Rattle.form_spec.specs.Body.{Body, listed, many, joins, spell, AllFits, BodyFits, plain, loose}
 use Rattle.form_spec.specs.Record.{Rec, write, size}
 use Rattle.form_spec.specs.Put as put
 use Rattle.form_spec.specs.Gives.{tail_of}
@@ -99,3 +99,5 @@ module _ (d : List ℕ) (at : ℕ) (r : Rec) (rest : List ℕ) (lie : write r ++
     where
       go : (b : Body) → r.body ≡ b → BodyFits (many f g) b → put.items n (within (drop at d) p) ≡ tail_of b → Held d at r g p.at n
       go (listed cs its) e h t = held_items cs its e h t
+      go (plain _) e h t = elim h [ ]
+      go (loose _ _) e h t = elim h [ ]

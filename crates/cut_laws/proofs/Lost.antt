@@ -46,6 +46,7 @@ each_stays g (n ∷ ns) i e h = go (g n) refl e i h (λ j. each_stays g ns j)
 own_index : (n : ℕ) (f : Fmt) (it : List (List ℕ)) → Fits (indexed n f) it → renumber (index_of it) it ≡ it
 unfolding Fits checked
 own_index n f (c ∷ cs) h = ap (λ (x : List ℕ). x ∷ cs) (to_be_at 2 c h.0 h.1)
+own_index n f [] h = elim h [ ]
 
 pub entries_stay : (g : ℕ → Bool) (ns : List ℕ) (f : Fmt) (its : List (List (List ℕ))) → length (kept g ns) ≡ length ns → AllFits (indexed (length ns) f) its → cut_entries g ns its ≡ its
 entries_stay g ns f [] e h = refl

@@ -9,7 +9,7 @@ use lib.ListN.{length, drop}
 use borrow.Author.Tests.{lt-ltb, ne_eqb}
 use Rattle.form_spec.specs.Octets.{Octets}
 use Rattle.form_spec.specs.Fmt.{Fmt, end, Fits}
-use Rattle.form_spec.specs.Body.{Body, plain, listed, many, BodyFits}
+use Rattle.form_spec.specs.Body.{Body, plain, listed, many, BodyFits, loose}
 use Rattle.form_spec.specs.Shape.{Layout, entries, St, no_table, with_peers, plan, after}
 use Rattle.form_spec.specs.Record.{Rec, write, size, next, time_of}
 use Rattle.form_spec.specs.Dump.{writes}
@@ -67,6 +67,8 @@ tabled : (st : St) (f g : Fmt) (b : Body) → BodyFits (plan st (entries f g)) b
 unfolding plan BodyFits Fits
 tabled no_table f g (plain cs) h = absurd (omega (arith, h.0))
 tabled (with_peers ns) f g b h = refl
+tabled no_table f g (loose _ _) h = elim h [ ]
+tabled no_table f g (listed _ _) h = elim h [ ]
 
 -- the entries of the RIB record e, shown of the record at `at` of d, and those that stay
 abbrev pub entries_in : (d : List ℕ) (at : ℕ) → St → Routes → List (List (List ℕ))
@@ -139,7 +141,9 @@ module _ (longest from to : ℕ) (ms new_indexes d : List ℕ) (at : ℕ) where
 -- a table of n peers that is told is in force
 pub tells_peers : (n : ℕ) (st : St) → Tells (Holds n) st → (st ≡ with_peers (numbers st)) × (n ≡ length (numbers st))
 tells_peers n (with_peers ns) h = (refl, h)
+tells_peers n no_table h = elim h [ ]
 
 -- and without one none is
 pub tells_none : (st : St) → Tells Absent st → st ≡ with_peers (numbers st) → ⊥
 tells_none no_table h e = let z : ◌≡◌ {A = ℕ} 0 1 = cc in omega arith
+tells_none (with_peers _) h e = elim h [ ]

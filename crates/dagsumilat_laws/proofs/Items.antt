@@ -21,7 +21,7 @@ use Rattle.page_spec.specs.Rib.{entry}
 use Rattle.page_spec.specs.Layout.{layout}
 use Rattle.record_spec.specs.declared.Shown.{Shown}
 use Rattle.record_spec.specs.declared.Shown.TheVariants.{Nothing, Refused, Good}
-use Rattle.record_spec.specs.declared.Body.TheVariants.{PeerTable, Rib, RibGeneric}
+use Rattle.record_spec.specs.declared.Body.TheVariants.{PeerTable, Rib, RibGeneric, Unread, TableDump, Change, Message}
 use Rattle.record_spec.specs.declared.Table.{Table}
 use Rattle.record_spec.specs.declared.Table.TheVariants.{Absent, Holds}
 use Rattle.record_spec.specs.One.{read_one}
@@ -68,6 +68,14 @@ module _ (longest : ℕ) (s : List ℕ) (oc : Octets s) (r : Rec) (q : List ℕ)
   table_stands : (t : Table) → read_rec (layout longest) (state_of t) 0 s ≡ good r q → (x : Shown) → read_one longest t s ≡ x → OfTable (sort_of x)
       → Stand s peer (count_of x) (items_at x) (place x) (items_of r.body)
   table_stands t w (Good h (PeerTable p)) e k = peers_stand longest t (state_of t) (tells-table t) s oc r q w h p e
+  table_stands t w Nothing e k = elim k [ ]
+  table_stands t w (Refused _ _) e k = elim k [ ]
+  table_stands t w (Good h (Unread _)) e k = elim k [ ]
+  table_stands t w (Good h (TableDump _)) e k = elim k [ ]
+  table_stands t w (Good h (Rib _)) e k = elim k [ ]
+  table_stands t w (Good h (RibGeneric _ _)) e k = elim k [ ]
+  table_stands t w (Good h (Change _ _)) e k = elim k [ ]
+  table_stands t w (Good h (Message _ _)) e k = elim k [ ]
 
   rib_stands : (t : Table) → read_rec (layout longest) (state_of t) 0 s ≡ good r q → (x : Shown) → read_one longest t s ≡ x → OfRib (sort_of x)
       → Stand s (entry (count_of_table t)) (count_of x) (items_at x) (place x) (items_of r.body)
@@ -75,6 +83,20 @@ module _ (longest : ℕ) (s : List ℕ) (oc : Octets s) (r : Rec) (q : List ℕ)
   rib_stands Absent w (Good h (RibGeneric f o)) e k = absurd (no_table (generic_told longest Absent (state_of Absent) tt s oc r q w h f o e))
   rib_stands (Holds n) w (Good h (Rib o)) e k = rib_stand longest n (state_of (Holds n)) (tells-table (Holds n)) s oc r q w h o e
   rib_stands (Holds n) w (Good h (RibGeneric f o)) e k = generic_stand longest n (state_of (Holds n)) (tells-table (Holds n)) s oc r q w h f o e
+  rib_stands Absent w Nothing e k = elim k [ ]
+  rib_stands Absent w (Refused _ _) e k = elim k [ ]
+  rib_stands Absent w (Good h (Unread _)) e k = elim k [ ]
+  rib_stands Absent w (Good h (TableDump _)) e k = elim k [ ]
+  rib_stands Absent w (Good h (PeerTable _)) e k = elim k [ ]
+  rib_stands Absent w (Good h (Change _ _)) e k = elim k [ ]
+  rib_stands Absent w (Good h (Message _ _)) e k = elim k [ ]
+  rib_stands (Holds n) w Nothing e k = elim k [ ]
+  rib_stands (Holds n) w (Refused _ _) e k = elim k [ ]
+  rib_stands (Holds n) w (Good h (Unread _)) e k = elim k [ ]
+  rib_stands (Holds n) w (Good h (TableDump _)) e k = elim k [ ]
+  rib_stands (Holds n) w (Good h (PeerTable _)) e k = elim k [ ]
+  rib_stands (Holds n) w (Good h (Change _ _)) e k = elim k [ ]
+  rib_stands (Holds n) w (Good h (Message _ _)) e k = elim k [ ]
 
 -- ---- what the call tells of it
 
@@ -99,14 +121,35 @@ module _ (force : ℕ) (t : Table) (at : ℕ) where
   typed : (x : Shown) → ((told x).ty ≡ type_of x) × ((told x).subtype ≡ subtype_of x)
   typed Nothing = (refl, refl)
   typed (Refused n p) = (refl, refl)
-  typed (Good h b) = by_sort_lem _ _ (Good h b) (sort_of (Good h b))
+  typed (Good h (Unread _)) = (refl, refl)
+  typed (Good h (TableDump _)) = (refl, refl)
+  typed (Good h (PeerTable _)) = (refl, refl)
+  typed (Good h (Rib _)) = (refl, refl)
+  typed (Good h (RibGeneric _ _)) = (refl, refl)
+  typed (Good h (Change _ _)) = (refl, refl)
+  typed (Good h (Message _ _)) = (refl, refl)
 
   table-items : (x : Shown) → OfTable (sort_of x) → ((told x).count ≡ count_of x) × ((told x).items ≡ items_at x) × ((told x).place ≡ at + place x)
   table-items (Good h (PeerTable p)) k = (refl, refl, refl)
+  table-items Nothing k = elim k [ ]
+  table-items (Refused _ _) k = elim k [ ]
+  table-items (Good h (Unread _)) k = elim k [ ]
+  table-items (Good h (TableDump _)) k = elim k [ ]
+  table-items (Good h (Rib _)) k = elim k [ ]
+  table-items (Good h (RibGeneric _ _)) k = elim k [ ]
+  table-items (Good h (Change _ _)) k = elim k [ ]
+  table-items (Good h (Message _ _)) k = elim k [ ]
 
   rib-items : (x : Shown) → OfRib (sort_of x) → ((told x).count ≡ count_of x) × ((told x).items ≡ items_at x) × ((told x).place ≡ at + place x)
   rib-items (Good h (Rib o)) k = (refl, refl, refl)
   rib-items (Good h (RibGeneric f o)) k = (refl, refl, refl)
+  rib-items Nothing k = elim k [ ]
+  rib-items (Refused _ _) k = elim k [ ]
+  rib-items (Good h (Unread _)) k = elim k [ ]
+  rib-items (Good h (TableDump _)) k = elim k [ ]
+  rib-items (Good h (PeerTable _)) k = elim k [ ]
+  rib-items (Good h (Change _ _)) k = elim k [ ]
+  rib-items (Good h (Message _ _)) k = elim k [ ]
 
 -- ---- the record at `at` of the dump d
 

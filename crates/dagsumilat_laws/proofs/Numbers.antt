@@ -34,6 +34,7 @@ only_five (field x l b k) u at bs = go (ltb (length bs) l) (read (k (take l bs))
     go true o h = inr refl
     go false (bad n p) h = h
     go false (good cs r) h = inl refl
+only_five (test fault back _) u at bs = elim u [ ]
 
 unchecked_choose : (b : Bool) (f g : Fmt) → Unchecked f → Unchecked g → Unchecked (choose b f g)
 unfolding choose

@@ -31,10 +31,14 @@ module _ (longest : ℕ) where
   shows-append : (rs qs : List Rec) (xs ys : List Told) → ShowsAll longest rs xs → ShowsAll longest qs ys → ShowsAll longest (rs ++ qs) (xs ++ ys)
   shows-append [] qs [] ys h k = k
   shows-append (r ∷ rs) qs (x ∷ xs) ys h k = (h.0, shows-append rs qs xs ys h.1 k)
+  shows-append [] qs (x ∷ xs) ys h k = elim h [ ]
+  shows-append (r ∷ rs) qs [] ys h k = elim h [ ]
 
   shows-length : (rs : List Rec) (xs : List Told) → ShowsAll longest rs xs → length rs ≡ length xs
   shows-length [] [] h = refl
   shows-length (r ∷ rs) (x ∷ xs) h = ap suc (shows-length rs xs h.1)
+  shows-length [] (x ∷ xs) h = elim h [ ]
+  shows-length (r ∷ rs) [] h = elim h [ ]
 
   module _ (d : List ℕ) (oc : Octets d) where
     -- ---- by the invariant, call after call

@@ -47,6 +47,8 @@ unfolding BodyFits
 few l (plain cs) n raw e h = let z : ◌≡◌ {A = ℕ} 0 1 = cc in absurd (omega arith)
 few l (loose cs r) n raw e h = let z : ◌≡◌ {A = ℕ} 0 1 = cc in absurd (omega arith)
 few (many f g) (listed cs its) n raw e h = let z : n ≡ length its = cc in omega (arith, h.1)
+few (just _) (listed cs its) n raw e h = elim h [ ]
+few (free _) (listed cs its) n raw e h = elim h [ ]
 
 module _ (longest : ℕ) (t : Table) (s : List ℕ) (oc : Octets s) (small : Small t) where
   some : (a : Header) (b : shown.Body) → read_one longest t s ≡ Good a b → 0 < length s

@@ -48,6 +48,7 @@ entry_is n (c ∷ t ∷ l ∷ a ∷ []) rest h =
       size = rw (r, drop_past 2 4 c (t ++ (l ++ (a ++ rest))) e2, drop_at t (l ++ (a ++ rest)) 4 e4, take_at l (a ++ rest) 2 el) (simp length-append (omega arith));
       room = simp length-append (omega arith);
     }
+entry_is n [] rest h = elim h [ ]
 
 -- the entry it at a place of d
 pub record EntryAt (d : List ℕ) (at : ℕ) (it : List (List ℕ)) : Type 0 where

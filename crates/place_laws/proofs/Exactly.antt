@@ -25,6 +25,7 @@ fails_from (test m b f) [] cs r n p h = h
 fails_from (test m b f) (c ∷ bs) cs r n p h = (p.0, fails_from f (c ∷ bs) cs r n p.1 h)
 fails_from (field x l b k) [] cs r n p h = h
 fails_from (field x l b k) (c ∷ bs) cs r n p h = (p.0, fails_from (k c) bs cs r n p.1 h)
+fails_from (end b) (c ∷ bs) cs r n p h = elim p [ ]
 
 -- the same octets from the same format on
 module _ {A : Type 0} where
@@ -59,6 +60,8 @@ one_way (field x l b k) (c ∷ cs) (d ∷ ds) r q n m h g e =
     let a : c ≡ d = same_first c (join cs ++ r) d (join ds ++ q) w z in
     let i = one_way (k c) cs ds r q n m h.1 (subst (λ (y : List ℕ). Fails (k y) ds q m) (sym a) g.1) (same_rest c (join cs ++ r) d (join ds ++ q) w z) in
     (rw (a, i.0), i.1)
+one_way (end b) [] (d ∷ ds) r q n m h g e = elim g [ ]
+one_way (end b) (c ∷ cs) ds r q n m h g e = elim h [ ]
 
 joined : (bs cs : List (List ℕ)) (r : List ℕ) → join (bs ++ cs) ++ r ≡ join bs ++ (join cs ++ r)
 joined [] cs r = refl
@@ -97,6 +100,7 @@ finish_fails (field x l b k) (c ∷ cs) r n at h =
     let o : (c ++ join cs) ++ r ≡ c ++ (join cs ++ r) = append_assoc c (join cs) r in
     let w : l ≤ length (c ++ (join cs ++ r)) = rw length-append (omega (arith, h.0)) in
     (i.0, rw (o, le-ltb _ _ w, take_at c (join cs ++ r) l h.0, drop_at c (join cs ++ r) l h.0) i.1)
+finish_fails (end b) (c ∷ cs) r n at h = elim h [ ]
 
 pub failed_finish : (p : ℕ) (f : Fmt) (m : List ℕ) (n a at : ℕ) → Failed p f m n a → (q : ℕ) × (finish f at m ≡ bad n q)
 failed_finish p f m n a at h =

@@ -8,7 +8,7 @@ use lib.ListN.{length, length-replicate}
 use Rattle.form_spec.specs.Octets.{Octets}
 use Rattle.form_spec.specs.Fmt.{Out, bad, good, Fits}
 use Rattle.form_spec.specs.Words.{choose}
-use Rattle.form_spec.specs.Body.{Body, plain, BodyFits}
+use Rattle.form_spec.specs.Body.{Body, plain, BodyFits, loose, listed}
 use Rattle.form_spec.specs.Shape.{St, plan}
 use Rattle.form_spec.specs.Record.{Rec, write, read_rec, Valid}
 use Rattle.form_laws.proofs.Fmt.{Right}
@@ -68,6 +68,8 @@ unlisted longest st y u (kinds.Rib bits) b h e f = omega arith
 unlisted longest st y u kinds.RibGeneric b h e f = omega arith
 unlisted longest st y u (kinds.Change micro w) b h e f = omega arith
 unlisted longest st y u (kinds.Message micro w) b h e f = omega arith
+unlisted longest st y u (kinds.Refused n p) (loose _ _) h e f = elim f [ ]
+unlisted longest st y u (kinds.Refused n p) (listed _ _) h e f = elim f [ ]
 
 -- so no well-formed record is shown as a fault, wherever faults are placed
 pub not_refused : (longest : ℕ) (st : St) (s : List ℕ) (r : Rec) (n p : ℕ) → Valid (layout longest) st r → Same longest s r (Refused n p) → ⊥

@@ -88,6 +88,7 @@ module _ (longest : ℕ) (s m q : List ℕ) (t y u len : ℕ) (l : Stands s m q 
       same longest s m q t y u len l k kd (plain (c ∷ cs)) j (be c) _ x.0 x.1 x.2 (rw (laid, d)) x.3 (z.2 (head t y u len (be c)))
       (rw (given (be c) (Micro t (be c)) v (sym e) fs)
       (record { stamp = refl; type = sym e; sub = refl; fit = (be_below 4 c h.0 h.1, z.0.0); front = rw (to_be_at 4 c h.0 h.1, z.0.1); tail = refl }))
+  finely e d [] h j = elim h [ ]
 
   pub behind_agrees : (st : St) → Bgp y micro
       → Reads longest s m q t y u len l (read_body (plan st (layout_for longest k)) 12 (drop 12 m)) (behind (micro_at m micro) λ n at. whole (show (head t y u len n)) Refused f m at)

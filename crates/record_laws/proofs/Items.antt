@@ -7,7 +7,7 @@ use lib.ListN.{length, take, drop, length-append, length-drop, take-append-drop}
 use lib.Seq.{length-take-le}
 use Rattle.form_spec.specs.Octets.{Octets}
 use Rattle.form_spec.specs.Fmt.{good, Fmt, end, Fits}
-use Rattle.form_spec.specs.Body.{Plan, many, Body, plain, listed, joins, BodyFits}
+use Rattle.form_spec.specs.Body.{Plan, many, Body, plain, listed, joins, BodyFits, loose}
 use Rattle.form_spec.specs.Shape.{Layout, entries, St, no_table, with_peers, plan, items_of}
 use Rattle.form_spec.specs.Record.{Rec, write, size, read_rec, Valid}
 use Rattle.form_spec.specs.Put as put
@@ -56,16 +56,23 @@ items_stand s f g (listed cs its) fits p n tail h =
       ends = omega arith;
       inside = h;
     }
+items_stand s f g (plain _) fits p n tail h = elim fits [ ]
+items_stand s f g (loose _ _) fits p n tail h = elim fits [ ]
 
 -- the entries of a RIB record, where the table told has n peers
 told-plan : (n : ℕ) (st : St) → Tells (Holds n) st → (f : Fmt) → plan st (entries f entry_rest) ≡ many f (entry n)
 told-plan n (with_peers ns) h f = rw h (plan_entries ns f)
+told-plan n no_table h f = elim h [ ]
 
 -- which is well-formed only where a table is told
 told : (t : Table) (st : St) → Tells t st → (f g : Fmt) (b : Body) → BodyFits (plan st (entries f g)) b → (n : ℕ) × (t ≡ Holds n)
 unfolding plan BodyFits Fits
 told Absent no_table h f g (plain cs) fits = absurd (omega (arith, fits.0))
 told (Holds n) (with_peers ns) h f g b fits = (n, refl)
+told Absent no_table h f g (loose _ _) fits = elim fits [ ]
+told Absent no_table h f g (listed _ _) fits = elim fits [ ]
+told Absent (with_peers ns) h f g b fits = elim h [ ]
+told (Holds n) no_table h f g b fits = elim h [ ]
 
 module _ (longest : ℕ) (t : Table) (st : St) (tells : Tells t st) (s : List ℕ) (oc : Octets s) (r : Rec) (q : List ℕ) (reads : read_rec (layout longest) st 0 s ≡ good r q) where
   pub right : Valid (layout longest) st r × (write r ++ q ≡ s)

@@ -10,7 +10,7 @@ use borrow.Author.Tests.{le-ltb}
 use Rattle.form_spec.specs.Octets.{Octets}
 use Rattle.form_spec.specs.Fmt.{Out, bad, good, bind, Fmt, end, read, Fits}
 use Rattle.form_spec.specs.Words.{choose, num, tested}
-use Rattle.form_spec.specs.Body.{many, Body, listed, read_body, BodyFits}
+use Rattle.form_spec.specs.Body.{many, Body, listed, read_body, BodyFits, plain, loose}
 use Rattle.form_spec.specs.Shape.{front_of, plan}
 use Rattle.form_spec.specs.Record.{Rec, read_rec}
 use Rattle.form_spec.specs.Found.{fault_number}
@@ -49,6 +49,8 @@ not_nothing longest t (x ∷ s) h = omega arith
 front_fits : (f g : Fmt) (b : Body) → BodyFits (many f g) b → Fits f (front_of b)
 unfolding BodyFits
 front_fits f g (listed cs its) h = h.0
+front_fits f g (plain _) h = elim h [ ]
+front_fits f g (loose _ _) h = elim h [ ]
 
 -- a check that gives no fault is passed
 passed : (ok : Bool) → ◌≡◌ {A = ℕ} (cond ok 0 17) 0 → ok ≡ true

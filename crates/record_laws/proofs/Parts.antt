@@ -44,6 +44,8 @@ module _ (s : List ℕ) where
   by_parts (field x l b k) i P p (c ∷ cs) r e h =
       let d : c ++ (join cs ++ r) ≡ drop i s = sym (append_assoc c (join cs) r) ∙ e in
       by_parts (k c) (i + length c) _ (p c (record { size = h.0; octets = h.1; here = first_here c (join cs ++ r) i d })) cs r (rest_here c (join cs ++ r) i d) h.2
+  by_parts (end b) i P p (c ∷ cs) r e h = elim h [ ]
+  by_parts (field x l b k) i P p [] r e h = elim h [ ]
 
   -- the format that a test chose
   pub parts-choose : (b : Bool) (f g : Fmt) (i : ℕ) (P : List (List ℕ) → List Seen → Type 0) → (b ≡ true → Parts f i P) → (b ≡ false → Parts g i P) → Parts (choose b f g) i P

@@ -38,6 +38,12 @@ octets-spell (just f) (plain cs) h = fits-octets f cs h
 octets-spell (free f) (loose cs r) h = octets-append (join cs) r (fits-octets f cs h.0) h.1
 octets-spell (many f g) (listed cs its) h =
     octets-append (join cs) (to_be 2 (length its) ++ joins its) (fits-octets f cs h.0) (octets-append (to_be 2 (length its)) (joins its) (octets-to_be 2 (length its)) (octets-joins g its h.2))
+octets-spell (just f) (loose cs r) h = elim h [ ]
+octets-spell (just f) (listed cs its) h = elim h [ ]
+octets-spell (free f) (plain cs) h = elim h [ ]
+octets-spell (free f) (listed cs its) h = elim h [ ]
+octets-spell (many f g) (plain cs) h = elim h [ ]
+octets-spell (many f g) (loose cs r) h = elim h [ ]
 
 octets-head : (a b c d : List ℕ) → Octets a → Octets b → Octets c → Octets d → Octets (join (a ∷ b ∷ c ∷ d ∷ []))
 octets-head a b c d p q r s =

@@ -50,6 +50,8 @@ seen_then (test n b f) g i cs ds h = seen_then f g i cs ds h.1
 seen_then (field x l b k) g i (c ∷ cs) ds h =
     rw (seen_then (k c) g (i + length c) cs ds h.2, length-append, ← add_assoc)
     (note_then x i (length c) (i + length c) (be c) (seen (k c) (i + length c) cs) (seen g (i + length c + length (join cs)) ds))
+seen_then (end b) g i (c ∷ cs) ds h = elim h [ ]
+seen_then (field x l b k) g i [] ds h = elim h [ ]
 
 module _ (longest : ℕ) (s m q : List ℕ) (t y u len : ℕ) (l : Stands s m q len) where
   -- the count and the items, as a writer is given them
@@ -145,6 +147,8 @@ module _ (longest : ℕ) (s m q : List ℕ) (t y u len : ℕ) (l : Stands s m q 
   rib-agrees (Holds n) (with_peers ns) h bits e kd =
       rw (← h, rib_then bits n)
       (listed_agrees entry_count (entry n) (show.rib (head t y u len 0) m) (rib_head bits (end 0)) (Rib bits) kd (λ cs its. refl) (λ fs. (refl, refl, refl, refl, tt)) (rib-parts n bits e))
+  rib-agrees Absent (with_peers ns) h bits e kd = elim h [ ]
+  rib-agrees (Holds n) no_table h bits e kd = elim h [ ]
 
   pub generic_agrees : (table : Table) (st : St) → Tells table st → y ≡ 13 → u ≡ 6 → kind y u ≡ RibGeneric
       → Reads longest s m q t y u len l (read_body (plan st (layout_for longest RibGeneric)) 12 (drop 12 m))
@@ -154,3 +158,5 @@ module _ (longest : ℕ) (s m q : List ℕ) (t y u len : ℕ) (l : Stands s m q 
   generic_agrees (Holds n) (with_peers ns) h e d kd =
       rw (← h, generic_then n)
       (listed_agrees entry_count (entry n) (show.rib_generic (head t y u len 0) m) (generic_head (end 0)) RibGeneric kd (λ cs its. refl) (λ fs. (refl, refl, refl, refl, tt)) (generic_parts n e d))
+  generic_agrees Absent (with_peers ns) h e d kd = elim h [ ]
+  generic_agrees (Holds n) no_table h e d kd = elim h [ ]

@@ -41,6 +41,7 @@ module _ (longest : ℕ) (s m q : List ℕ) (t y u len : ℕ) (l : Stands s m q 
   plainly e kd [] c h j =
       same longest s m q t y u len l (chosen.Unread 0) kd (loose [] c) j 0 _ refl refl refl refl (rw e) tt
       (rw e (record { stamp = refl; type = refl; sub = refl; fit = tt; front = refl; tail = ap carried (rest_is longest s m q t y u len l [] c 12 j refl) }))
+  plainly e kd (_ ∷ _) c h j = elim h [ ]
 
   finely : finer y ≡ true → kind y u ≡ chosen.Unread 4 → (cs : List (List ℕ)) (c : List ℕ) → Fits (stamped 4 (end 0)) cs → join cs ++ c ≡ drop 12 m
       → Same longest s (rec t y u (loose cs c)) (shows (seen (stamped 4 (end 0)) 12 cs) (12 + length (join cs)))
@@ -56,6 +57,7 @@ module _ (longest : ℕ) (s m q : List ℕ) (t y u len : ℕ) (l : Stands s m q 
         tail = ap carried (rest_is longest s m q t y u len l (b ++ []) c (12 + length (b ++ [])) j refl);
       }))
   finely e kd (b ∷ d ∷ cs) c h j = absurd h.2
+  finely e kd [] c h j = elim h [ ]
 
   pub unread_agrees : (st : St) (micro : ℕ) → Says y u (chosen.Unread micro) → kind y u ≡ chosen.Unread micro
       → Reads longest s m q t y u len l (read_body (plan st (layout_for longest (chosen.Unread micro))) 12 (drop 12 m))

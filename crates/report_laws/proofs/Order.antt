@@ -39,7 +39,7 @@ module _ (longest : ℕ) where
   plus_swap d e report = adds_swap _ _ report (report_of longest d) (report_of longest e)
 
   pub any_order : (report : List ℕ) (ds es : List (List ℕ)) → Perm ds es → together longest report ds ≡ together longest report es
-  any_order report ds es p = Perm.foldr_eq sets (plus longest) plus_swap p report
+  any_order report ds es p = Perm.foldr-eq sets (plus longest) plus_swap p report
 
   -- the first dump added first
   first : (report d : List ℕ) (ds : List (List ℕ)) → together longest (plus longest d report) ds ≡ together longest report (d ∷ ds)

@@ -98,6 +98,8 @@ module _ (longest : ℕ) where
   states_by st chosen.RibGeneric y h = tt
   states_by st (chosen.Change micro w) (form.plain cs) h = stated_change micro w cs h
   states_by st (chosen.Message micro w) y h = tt
+  states_by st (chosen.Change micro w) (form.loose _ _) h = elim h [ ]
+  states_by st (chosen.Change micro w) (form.listed _ _) h = elim h [ ]
 
   pub states-valid : (st : St) (r : Rec) → Valid (layout longest) st r → InStates (notice longest r)
   unfolding notice layout
@@ -150,6 +152,8 @@ plain_by (chosen.Message micro w) l y m e a b = refl
 fits-front : (f : Fmt) (y : form.Body) → form.BodyFits (form.just f) y → Fits f (front_of y)
 unfolding form.BodyFits
 fits-front f (form.plain cs) h = h
+fits-front f (form.loose _ _) h = elim h [ ]
+fits-front f (form.listed _ _) h = elim h [ ]
 
 micro_of : (i : Time) (y micro : ℕ) → bgp4mp i ≡ y → Bgp y micro → micro ≡ micro_size i
 micro_of (Seconds t) y micro e (inl (a, b)) = b

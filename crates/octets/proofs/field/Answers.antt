@@ -1,0 +1,27 @@
+use native.Mathlib.Omega.{arith}
+use Rattle.octets_spec.specs.Field.{field_at}
+use Rattle.octets_laws.proofs.Rules.{flow}
+use Prim.Native.Nat.{◌+◌, ◌≤◌, ◌<◌}
+use lib.ListN.{length}
+use Rattle.octets.proofs.field.Goals as goal
+
+pub returns-then-m-at : goal.returns-then-m-at
+unfolding field_at
+returns-then-m-at c =
+    let a = c.args in
+    let h : length a.m.now < a.at + a.width = omega arith in
+    search flow
+
+pub returns-then-m-at-2 : goal.returns-then-m-at-2
+unfolding field_at
+returns-then-m-at-2 c =
+    let a = c.args in
+    let h : length a.m.now < a.at + a.width = omega arith in
+    search flow
+
+pub returns : goal.returns
+unfolding field_at
+returns c =
+    let a = c.args in
+    let h : a.at + a.width ≤ length a.m.now = omega arith in
+    search flow

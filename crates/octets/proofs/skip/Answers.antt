@@ -1,0 +1,27 @@
+use native.Mathlib.Omega.{arith}
+use Rattle.octets_spec.specs.Field.{room_at}
+use Rattle.octets_laws.proofs.Rules.{flow}
+use Prim.Native.Nat.{◌+◌, ◌≤◌, ◌<◌}
+use lib.ListN.{length}
+use Rattle.octets.proofs.skip.Goals as goal
+
+pub returns-then-m-at : goal.returns-then-m-at
+unfolding room_at
+returns-then-m-at c =
+    let a = c.args in
+    let h : length a.m.now < a.at + a.n = omega arith in
+    search flow
+
+pub returns-then-m-at-2 : goal.returns-then-m-at-2
+unfolding room_at
+returns-then-m-at-2 c =
+    let a = c.args in
+    let h : length a.m.now < a.at + a.n = omega arith in
+    search flow
+
+pub returns : goal.returns
+unfolding room_at
+returns c =
+    let a = c.args in
+    let h : a.at + a.n ≤ length a.m.now = omega arith in
+    search flow
