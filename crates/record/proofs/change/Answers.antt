@@ -1,0 +1,24 @@
+-- `record::change` meets its contract: what stands behind the header and its microseconds.
+use mathlib.Core.Path.{◌≡◌, ◌∙◌}
+use Rattle.form_spec.specs.Pass.{whole}
+use Rattle.page_spec.specs.Bgp4mp.{session, state_change}
+use Rattle.record_spec.specs.Fields as show
+use Rattle.record_spec.specs.declared.Shown.TheVariants.{Refused}
+use Rattle.record_spec.specs.One.{shown_change}
+use Rattle.record.specs.declared.Stamp.{Stamp}
+use Rattle.record.proofs.Laws.{onward, stamped}
+use Rattle.record.proofs.change.Goals.{After-stamp_at}
+use Rattle.record.proofs.change.Goals as goal
+
+-- `record::change` meets its contract: what stands behind the header and its microseconds.
+-- the answer, whatever the header was read as
+answers : (c : After-stamp_at) → let a = c.args in (x : Stamp) → c.stamp_at.result ≡ x
+    → onward a.m.now (λ h at. whole (show.change h) Refused (session a.width state_change) a.m.now at) x ≡ shown_change a.m.now a.micro a.width
+answers c x q =
+    stamped _ _ _ c.stamp_at.ensures q
+
+pub returns-in_default : goal.returns-in_default
+returns-in_default c = answers (goal.at.returns-in_default c).After-stamp_at _ c.in_default.is
+
+pub returns : goal.returns
+returns c = c.state_change.ensures ∙ answers (goal.at.returns c).After-stamp_at _ c.in-With.is

@@ -1,0 +1,13 @@
+-- `text::three_more` meets its contract.
+use native.Mathlib.Omega.{arith}
+use Rattle.text.proofs.Laws.{one_and, not_one}
+use Rattle.text.proofs.three_more.Goals as goal
+
+pub overflow_add-at : goal.overflow_add-at
+overflow_add-at c = omega (arith, (c.one_more.ensures.yes c.if-one_more.true).0)
+
+pub returns-then-one_more : goal.returns-then-one_more
+returns-then-one_more c = let f = c.one_more in one_and _ _ _ _ 2 _ _ f.ensures c.if-one_more.true c.two_more.ensures
+
+pub returns : goal.returns
+returns c = let f = c.one_more in not_one _ _ _ _ 2 _ f.ensures c.if-one_more.false
