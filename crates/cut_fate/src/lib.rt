@@ -17,7 +17,7 @@ use mutes::listed;
 use mutes_spec::Slots;
 
 // Times from start up to but not including end.
-#[derive(Drop)]
+#[derive(Clone, Copy)]
 pub struct Window {
     pub start: u64,
     pub end: u64,

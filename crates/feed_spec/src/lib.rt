@@ -2,7 +2,7 @@
 use record_spec::Table;
 
 // The last word of a feed.
-#[derive(Drop)]
+#[derive(Clone, Copy)]
 pub enum Last {
     // none yet
     Open,
@@ -12,7 +12,7 @@ pub enum Last {
 }
 
 // A feed as far as it has come. Offsets and places count from its first octet.
-#[derive(Drop)]
+#[derive(Clone, Copy)]
 pub struct Feed {
     // where the record at hand starts
     pub at: usize,
@@ -24,7 +24,7 @@ pub struct Feed {
 }
 
 // How far the record at hand has come with a chunk.
-#[derive(Drop)]
+#[derive(Clone, Copy)]
 pub enum Reach {
     // octets of it, or of its header, are missing
     Short,
@@ -34,7 +34,7 @@ pub enum Reach {
     Whole(usize),
 }
 
-#[derive(Drop)]
+#[derive(Clone, Copy)]
 pub enum Said {
     // nothing yet, for lack of octets
     More,
@@ -46,7 +46,7 @@ pub enum Said {
 }
 
 // What one call says, how many octets of its chunk it has taken, and the feed afterwards.
-#[derive(Drop)]
+#[derive(Clone, Copy)]
 pub struct Fed {
     pub said: Said,
     pub taken: usize,

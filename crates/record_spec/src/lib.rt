@@ -1,11 +1,11 @@
 // What reading shows. A place is an offset from the record's header; a part is octets that stay where they lie.
-#[derive(Drop)]
+#[derive(Clone, Copy)]
 pub struct Part {
     pub at: usize,
     pub size: usize,
 }
 
-#[derive(Drop)]
+#[derive(Clone, Copy)]
 pub struct Header {
     pub timestamp: u32,
     pub ty: u16,
@@ -16,7 +16,7 @@ pub struct Header {
 }
 
 // Types 16 and 17: the peer's AS and the local one, and the two addresses, the peer's first.
-#[derive(Drop)]
+#[derive(Clone, Copy)]
 pub struct Session {
     pub peer: u64,
     pub local: u64,
@@ -27,7 +27,7 @@ pub struct Session {
 }
 
 // Type 12.
-#[derive(Drop)]
+#[derive(Clone, Copy)]
 pub struct Route {
     pub view: u64,
     pub sequence: u64,
@@ -41,7 +41,7 @@ pub struct Route {
 }
 
 // Type 13, subtype 1.
-#[derive(Drop)]
+#[derive(Clone, Copy)]
 pub struct Peers {
     pub collector: u64,
     pub name: Part,
@@ -50,7 +50,7 @@ pub struct Peers {
 }
 
 // Type 13, subtypes 2 to 6, but for the family and SAFI that only subtype 6 has.
-#[derive(Drop)]
+#[derive(Clone, Copy)]
 pub struct Routes {
     pub sequence: u64,
     pub bits: u64,
@@ -60,27 +60,27 @@ pub struct Routes {
 }
 
 // Subtype 6: family and SAFI.
-#[derive(Drop)]
+#[derive(Clone, Copy)]
 pub struct Scope {
     pub family: u64,
     pub safi: u64,
 }
 
-#[derive(Drop)]
+#[derive(Clone, Copy)]
 pub struct States {
     pub old: u64,
     pub new: u64,
 }
 
 // A BGP message, from its marker on, and its type octet.
-#[derive(Drop)]
+#[derive(Clone, Copy)]
 pub struct Bgp {
     pub message: Part,
     pub kind: u64,
 }
 
 // What stands behind a good record's header and microseconds.
-#[derive(Drop)]
+#[derive(Clone, Copy)]
 pub enum Body {
     // its contents
     Unread(Part),
@@ -92,7 +92,7 @@ pub enum Body {
     Message(Session, Bgp),
 }
 
-#[derive(Drop)]
+#[derive(Clone, Copy)]
 pub enum Shown {
     // no octets at all
     Nothing,
@@ -102,21 +102,21 @@ pub enum Shown {
 }
 
 // One entry of a RIB record: peer index, originated time, attributes, and where the next entry starts.
-#[derive(Drop)]
+#[derive(Clone, Copy)]
 pub enum Entry {
     At(u64, u64, Part, usize),
     Bad(u8, usize),
 }
 
 // One peer of a table: type octet, BGP ID, address, AS, and where the next peer starts.
-#[derive(Drop)]
+#[derive(Clone, Copy)]
 pub enum Peer {
     Of(u64, u64, Part, u64, usize),
     Bad(u8, usize),
 }
 
 // The table that a reader or a writer is told: none in force, or one of so many peers.
-#[derive(Drop)]
+#[derive(Clone, Copy)]
 pub enum Table {
     Absent,
     Holds(u64),
