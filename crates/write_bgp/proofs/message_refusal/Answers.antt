@@ -1,0 +1,27 @@
+-- `write_bgp::message_refusal` meets its contract: the reader's number.
+use mathlib.Core.Path.{sym, ap, ◌∙◌}
+use Rattle.record_spec.specs.declared.Part.{Part}
+use Rattle.record_spec.specs.declared.Header.{Header}
+use Rattle.record_spec.specs.declared.Session.{Session}
+use Rattle.record_spec.specs.Answer.{fault}
+use Rattle.write_laws.proofs.Items.{not_refused}
+use Rattle.write_bgp.proofs.Judged.{judged}
+use borrow.Enum.Refused.{opened}
+use Rattle.write_bgp.proofs.message_refusal.Goals as goal
+
+-- `write_bgp::message_refusal` meets its contract: the reader's number.
+-- the message stands alone
+abbrev part : Part
+part = record { at = 0; size = 0 }
+
+abbrev header : Header
+header = record { timestamp = 0; ty = 0; subtype = 0; length = 0; microseconds = 0 }
+
+abbrev session : Session
+session = record { peer = 0; local = 0; interface = 0; family = 0; theirs = part; ours = part }
+
+pub returns-in_default : goal.returns-in_default
+returns-in_default c = sym (not_refused c.message_at.result (opened c.in_default.in_default-own.keys2)) ∙ judged _ header session c.args.b.now _ c.message_at.ensures
+
+pub returns : goal.returns
+returns c = sym (ap fault c.in-Refused.is) ∙ judged _ header session c.args.b.now _ c.message_at.ensures

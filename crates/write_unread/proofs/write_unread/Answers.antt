@@ -1,0 +1,71 @@
+-- `write_unread::write_unread` meets its contract: header, microseconds, contents.
+use mathlib.Core.Path.{◌≡◌, refl, sym, ap, ◌∙◌}
+use Prim.Native.Nat.{ℕ, ◌+◌, ◌≤◌}
+use native.Mathlib.Omega.{arith}
+use lib.ListN.{length}
+use Rattle.form_spec.specs.Fmt.{join}
+use Rattle.form_spec.specs.Put.{Given, lay, message}
+use Rattle.form_spec.specs.Shape.{no_table}
+use Rattle.octets_laws.proofs.Over.{more}
+use Rattle.write_spec.specs.Times.{micro_size, micros}
+use Rattle.write_spec.specs.Only.{unreads, only_type}
+use Rattle.write_spec.specs.Givens.{unread_given}
+use Rattle.write_spec.specs.Verdict.{capped}
+use Rattle.write_laws.proofs.Answers.{refuses, Goes, goes, done, micros_long}
+use Rattle.write_unread.proofs.Laws.{message_long}
+use borrow.Author.Rules.{rules}
+use Rattle.write_unread.proofs.write_unread.Goals.{After-verdict-v, In-Octets}
+use Rattle.write_unread.proofs.write_unread.Goals as goal
+
+abbrev given : After-verdict-v → Given
+given c =
+    let a = c.args in unread_given a.time a.ty a.subtype a.contents.now
+
+-- the message's length, as it is added up
+sized : (c : After-verdict-v) → let given : (Given) = let a = c.args in unread_given a.time a.ty a.subtype a.contents.now in c.add-size.result ≡ capped (length (message given))
+sized c =
+    let given : (Given) = let a = c.args in unread_given a.time a.ty a.subtype a.contents.now in
+    let a = c.args in
+    c.add-size.ensures ∙ ap capped (ap (λ (m : ℕ). m + length a.contents.now) c.micro.ensures ∙ sym (message_long a.time a.ty a.subtype a.contents.now))
+
+-- ---- the record goes into the buffer
+fine : (longest : ℕ) (c : In-Octets) → let given : (Given) = let a = c.args in unread_given a.time a.ty a.subtype a.contents.now in let a = c.args in
+    Goes (only_type (unreads (micro_size a.time)) longest) no_table given a.out.now (c.add-size.result) c.verdict-v.result
+fine longest c =
+    let given : (Given) = let a = c.args in unread_given a.time a.ty a.subtype a.contents.now in
+    let sized : (c.add-size.result ≡ capped (length (message given))) = let a = c.args in c.add-size.ensures ∙ ap capped (ap (λ (m : ℕ). m + length a.contents.now) c.micro.ensures ∙ sym (message_long a.time a.ty a.subtype a.contents.now)) in
+    goes _ _ _ _ _ _ _ _ (c.unread_refusal.ensures longest) sized refl c.verdict-v.ensures _ c.in-Octets.is
+
+space : (c : In-Octets) → let a = c.args in 12 + (micro_size a.time + length a.contents.now) ≤ length a.out.now
+space c =
+    let given : (Given) = let a = c.args in unread_given a.time a.ty a.subtype a.contents.now in
+    let sized : (c.add-size.result ≡ capped (length (message given))) = let a = c.args in c.add-size.ensures ∙ ap capped (ap (λ (m : ℕ). m + length a.contents.now) c.micro.ensures ∙ sym (message_long a.time a.ty a.subtype a.contents.now)) in
+    let fine : (let a = c.args in Goes (only_type (unreads (micro_size a.time)) 0) no_table given a.out.now (c.add-size.result) c.verdict-v.result) = goes _ _ _ _ _ _ _ _ (c.unread_refusal.ensures 0) sized refl c.verdict-v.ensures _ c.in-Octets.is in
+    let a = c.args in
+    let l = message_long a.time a.ty a.subtype a.contents.now in
+    omega (arith, fine.space)
+
+pub returns-in_default : goal.returns-in_default
+returns-in_default c = refuses _ _ (given (goal.at.returns-in_default c).After-verdict-v) c.args.out.now _ _ _ _ (c.unread_refusal.ensures _) (sized (goal.at.returns-in_default c).After-verdict-v) refl c.verdict-v.ensures _ _ c.in_default.is
+
+pub put_head-requires : goal.put_head-requires
+put_head-requires c = let s = space (goal.at.put_head-requires c).In-Octets in search rules
+
+pub put_micros-at-requires : goal.put_micros-at-requires
+put_micros-at-requires c = let s = space (goal.at.put_micros-at-requires c).In-Octets in search rules
+
+pub put_bytes-requires : goal.put_bytes-requires
+put_bytes-requires c =
+    let s = space (goal.at.put_bytes-requires c).In-Octets in
+    let i = c.put_micros-at.ensures.0 in
+    search rules
+
+pub returns : goal.returns
+returns c =
+    let a = c.args in
+    let s = space (goal.at.returns c).In-Octets in
+    let l = micros_long a.time in
+    let at = c.put_micros-at.ensures.0 ∙ ap (λ (n : ℕ). 12 + n) (sym l) in
+    let head = rw c.seconds.ensures at c.put_head.ensures in
+    let rest = more c.put_head.new.out (join (lay (micros a.time))) a.contents.now _ _ 12 _ c.put_micros-at.ensures.1 c.put_bytes.ensures at (rw l (search rules)) in
+    done _ _ _ _ _ _ _ _ (fine _ (goal.at.returns c).In-Octets) head rest
