@@ -32,6 +32,7 @@ renumbered m at n k oc h out l out' put size es room a b =
         let r : put + length (c ++ join cs) ≤ length out = omega arith in
         let z : put + 0 ≡ put = omega arith in
         b ∙ rw w (rw z at (over_within out put [] c (join cs) (to_be 2 k) lz r))
+    go [] f e w = elim f [ ]
 
 -- a peer's octets, or none
 pub copied : (t : Bool) (m : List ℕ) (at size : ℕ) → Octets m → Lies peer (drop at m) → size ≡ length (join (item peer (drop at m)))

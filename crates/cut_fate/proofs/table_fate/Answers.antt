@@ -1,0 +1,30 @@
+-- `cut_fate::table_fate` meets its contract.
+use native.Mathlib.Omega.{arith}
+use Rattle.look_spec.specs.Field.{shown, Counted}
+use Rattle.cut_fate.proofs.Fated.{peers_there}
+use Rattle.cut_fate.proofs.table_fate.Goals.{After-peer_count_at-counted}
+use Rattle.cut_fate.proofs.table_fate.Goals as goal
+
+-- where the peers are counted
+counted : (c : After-peer_count_at-counted) →
+    Counted c.args.d.now c.args.at c.peer_count_at-counted.result (shown c.requires.0 c.args.d.now c.args.at)
+counted c =
+    let k = c.requires in c.peer_count_at-counted.ensures k.0 k.1
+
+pub peer_count_at-counted-requires : goal.peer_count_at-counted-requires
+peer_count_at-counted-requires c = c.requires
+
+pub overflow_add-result : goal.overflow_add-result
+overflow_add-result c = let k = counted (goal.at.overflow_add-result c).After-peer_count_at-counted in omega (arith, k.inside)
+
+pub overflow_sub-result : goal.overflow_sub-result
+overflow_sub-result c = let k = counted (goal.at.overflow_sub-result c).After-peer_count_at-counted in omega (arith, k.items)
+
+pub count-requires : goal.count-requires
+count-requires c = (counted (goal.at.count-requires c).After-peer_count_at-counted).inside
+
+pub returns-then-lost : goal.returns-then-lost
+returns-then-lost c = λ t g. rw c.if-lost.true (peers_there (c.peer_count_at-counted.ensures t g) c.count.ensures.0)
+
+pub returns : goal.returns
+returns c = λ t g. rw c.if-lost.false
