@@ -1,4 +1,6 @@
 // Types 16 and 17: state changes and BGP messages. m is the record from its header to its last octet.
+#![tactic(auto)]
+
 ghost use Rattle.std.specs.Prelude.{◌≡◌, ◌+◌, ◌≤◌};
 ghost use Rattle.form_spec.specs.Fmt.{end};
 ghost use Rattle.form_spec.specs.Pass.{pass, whole};

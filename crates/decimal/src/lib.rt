@@ -1,4 +1,6 @@
 // Decimal numbers as text in lent slices.
+#![tactic(auto)]
+
 ghost use Rattle.std.specs.Prelude.{◌≡◌, ◌+◌, ◌≤◌, length, drop};
 ghost use Rattle.octets_spec.specs.Over.{over};
 ghost use Rattle.decimal_spec.specs.Decimal.{decimal};

@@ -1,3 +1,5 @@
+#![tactic(auto)]
+
 // A number that was read: its value and the offset behind it; or that none stands there.
 #[derive(Drop)]
 pub enum Number {

@@ -1,15 +1,14 @@
 -- What is read as a body is what its grammar says, both ways.
 use mathlib.Core.Path.{◌≡◌, refl, sym, ap, ◌∙◌, subst}
-use mathlib.Core.Bool.{Bool, true, false}
 use mathlib.Core.List.{List, [], ◌∷◌, ◌++◌, append_assoc, append-nil}
-use Prim.Native.Nat.{ℕ, zero, suc, ◌+◌, ◌-◌, ◌≤◌, ◌<◌}
+use Prim.Native.Nat.{ℕ, zero, suc, ◌+◌, ◌≤◌}
 use native.Mathlib.Omega.{arith}
 use lib.ListN.{length, take, drop, length-append, take-append-drop}
 use lib.Seq.{take_at, drop_at, length-take-le}
 use lib.Dec.{ltb}
-use borrow.Author.Tests.{ltb-true, ltb-false, lt-ltb, le-ltb}
+use borrow.Author.Tests.{ltb-false, le-ltb}
 use Rattle.form_spec.specs.Octets.{Octets, be, to_be}
-use Rattle.form_spec.specs.Fmt.{Out, bad, good, bind, refuse_if, Fmt, read, Fits, join, over_at}
+use Rattle.form_spec.specs.Fmt.{Out, bad, good, bind, refuse_if, Fmt, read, Fits, join}
 use Rattle.form_spec.specs.Body.{read_n, joins, AllFits, Items, Plan, just, free, many, Body, plain, loose, listed, ended, read_body, spell, BodyFits}
 use Rattle.form_laws.proofs.Octets.{octets-take, octets-drop, octets_right, length-to_be, be-to_be, to_be_at, be_below}
 use Rattle.form_laws.proofs.Fmt.{Right, right_bind, refuse_case, sound, complete}

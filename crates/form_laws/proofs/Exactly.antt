@@ -1,13 +1,12 @@
 -- Reading accepts exactly the well-formed records; their fields are unique, and their octets are those that were there.
-use mathlib.Core.Path.{◌≡◌, refl, sym, ap, ◌∙◌}
+use mathlib.Core.Path.{◌≡◌, sym, ◌∙◌}
 use mathlib.Core.Logic.{◌↔◌}
 use mathlib.Core.List.{List, ◌++◌}
 use Prim.Native.Nat.{ℕ}
 use Rattle.form_spec.specs.Octets.{Octets}
-use Rattle.form_spec.specs.Fmt.{Out, bad, good}
+use Rattle.form_spec.specs.Fmt.{Out, good}
 use Rattle.form_spec.specs.Shape.{Layout, St}
 use Rattle.form_spec.specs.Record.{Rec, write, read_rec, Valid}
-use Rattle.form_laws.proofs.Fmt.{Right}
 use Rattle.form_laws.proofs.Record.{sound_rec, complete_rec}
 
 module _ (layout : ℕ → ℕ → Layout) (st : St) (at : ℕ) (d : List ℕ) (oc : Octets d) where

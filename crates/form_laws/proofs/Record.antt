@@ -1,16 +1,15 @@
 -- What is read as a record is what its grammar says, both ways.
-use mathlib.Core.Path.{◌≡◌, refl, sym, ap, ◌∙◌, subst}
-use mathlib.Core.Bool.{Bool, true, false}
-use mathlib.Core.List.{List, [], ◌∷◌, ◌++◌, append_assoc, append-nil}
-use Prim.Native.Nat.{ℕ, zero, suc, ◌+◌, ◌-◌, ◌*◌, ◌^◌, ◌≤◌, ◌<◌}
+use mathlib.Core.Path.{◌≡◌, refl, sym, ◌∙◌, subst}
+use mathlib.Core.List.{List, [], ◌∷◌, ◌++◌, append_assoc}
+use Prim.Native.Nat.{ℕ, ◌+◌, ◌^◌, ◌≤◌, ◌<◌}
 use native.Mathlib.Omega.{arith}
 use lib.ListN.{length, take, drop, length-append, take-append-drop}
 use lib.Seq.{take_at, drop_at, length-take-le}
 use lib.Dec.{ltb}
-use borrow.Author.Tests.{ltb-true, ltb-false, lt-ltb, le-ltb}
-use Rattle.form_spec.specs.Octets.{Octets, be, to_be}
-use Rattle.form_spec.specs.Fmt.{Out, bad, good, bind, refuse_if, Fmt, read, Fits, join}
-use Rattle.form_spec.specs.Body.{Body, spell, read_body, BodyFits}
+use borrow.Author.Tests.{ltb-false, le-ltb}
+use Rattle.form_spec.specs.Octets.{Octets, to_be}
+use Rattle.form_spec.specs.Fmt.{Out, bad, good, bind, read, Fits, join}
+use Rattle.form_spec.specs.Body.{Body, spell, read_body}
 use Rattle.form_spec.specs.Shape.{Layout, St, plan, number}
 use Rattle.form_spec.specs.Record.{Rec, header, head, write, size, rec_of, read_rec, Valid}
 use Rattle.form_laws.proofs.Octets.{octets-take, octets_right, octets-to_be, length-to_be, be-to_be, to_be_at, be_below}

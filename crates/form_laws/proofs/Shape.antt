@@ -10,7 +10,7 @@ use borrow.Author.Tests.{ltb-true}
 use Rattle.form_spec.specs.Octets.{be}
 use Rattle.form_spec.specs.Fmt.{Fmt, Fits}
 use Rattle.form_spec.specs.Words.{checked}
-use Rattle.form_spec.specs.Shape.{Layout, refuse, fields, unread, table, entries, St, with_peers, plan, indexed, index_of}
+use Rattle.form_spec.specs.Shape.{Layout, refuse, fields, unread, table, entries, with_peers, plan, indexed, index_of}
 use Rattle.form_laws.proofs.Octets.{be_below}
 
 pub plan-count : (ns ks : List ℕ) (l : Layout) → length ns ≡ length ks → plan (with_peers ns) l ≡ plan (with_peers ks) l

@@ -1,6 +1,6 @@
 -- A format as code goes through it, from offset i of m on. `to` gets the fields that have a name, the offset after the last and
 -- the place of what is left over; `fault` a fault's number and place.
-use Rattle.std.specs.Prelude.{Bool, true, false, cond, List, [], ◌∷◌, ℕ, zero, suc, ◌+◌, ◌-◌, length, take, drop, ltb, eqb}
+use Rattle.std.specs.Prelude.{cond, List, [], ◌∷◌, ℕ, zero, suc, ◌+◌, ◌-◌, length, take, drop, ltb, eqb}
 use Rattle.form_spec.specs.Octets.{be}
 use Rattle.form_spec.specs.Fmt.{Fmt, end, test, field}
 use Rattle.form_spec.specs.Words.{choose, num}

@@ -1,7 +1,7 @@
 -- A record: its header, and the message that its type and subtype lay out. The layouts are left open.
 use Rattle.std.specs.Prelude.{List, [], ◌∷◌, ◌++◌, ℕ, ◌+◌, ◌*◌, ◌^◌, ◌<◌, length, take, drop, ltb}
 use Rattle.form_spec.specs.Octets.{to_be}
-use Rattle.form_spec.specs.Fmt.{Out, bad, good, bind, refuse_if, Fmt, end, field, read, join}
+use Rattle.form_spec.specs.Fmt.{Out, good, bind, refuse_if, Fmt, end, field, read, join}
 use Rattle.form_spec.specs.Body.{Body, spell, read_body, BodyFits}
 use Rattle.form_spec.specs.Shape.{Layout, St, plan, after, micros_in, number}
 

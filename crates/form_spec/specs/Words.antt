@@ -1,5 +1,5 @@
 -- The words of a page of layouts. They stay shut in proofs of code: the rules of octets_laws go by them.
-use Rattle.std.specs.Prelude.{Bool, true, false, cond, List, ℕ, leb}
+use Rattle.std.specs.Prelude.{Bool, false, cond, List, ℕ, leb}
 use Rattle.form_spec.specs.Octets.{be}
 use Rattle.form_spec.specs.Fmt.{Fmt, end, test, field}
 

@@ -1,4 +1,6 @@
 // The choice of a layout: a match on the Type, then on ranges of the Subtype.
+#![tactic(auto)]
+
 ghost use Rattle.std.specs.Prelude.{◌≡◌};
 ghost use Rattle.page_spec.specs.Layout.{kind12, kind13, kind16, kind};
 

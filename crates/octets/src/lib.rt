@@ -1,5 +1,7 @@
 // Octets in lent slices: copied, and parts of them handed out; big-endian numbers, of any width up to 8 octets; fields of a
 // message, read where they are there, and judged before they are written.
+#![tactic(auto)]
+
 ghost use Rattle.std.specs.Prelude.{◌≡◌, ◌+◌, ◌-◌, ◌≤◌, ◌<◌, ◌^◌, length, take, drop, leb};
 ghost use Rattle.octets_spec.specs.Over.{over};
 ghost use Rattle.octets_spec.specs.Lent.{PartOf};

@@ -1,3 +1,5 @@
+#![tactic(auto)]
+
 // A field's number and the place after it, or Short where its octets are not all there.
 #[derive(Drop)]
 pub enum Num {

@@ -1,3 +1,5 @@
+#![tactic(auto)]
+
 // The layout that a Type and a Subtype choose. `micro` is 4 where the message starts with microseconds, else 0.
 #[derive(Drop)]
 pub enum Kind {

@@ -1,4 +1,6 @@
 // Type 13, subtype 1: the peer table. m is the record from its header to its last octet.
+#![tactic(auto)]
+
 ghost use Rattle.std.specs.Prelude.{◌≡◌, ◌≤◌};
 ghost use Rattle.form_spec.specs.Pass.{pass, whole, times, number_of};
 ghost use Rattle.page_spec.specs.Peers.{peer_rest, peer_sized, peer, peer_list, peer_table};

@@ -1,5 +1,5 @@
 -- A number of at most 4 octets.
-use Rattle.std.specs.Prelude.{ℕ, ◌^◌, ◌<◌}
+use Rattle.std.specs.Prelude.{◌^◌, ◌<◌}
 use Rattle.octets_spec.specs.declared.Num.{Num}
 use Rattle.octets_spec.specs.declared.Num.TheVariants.{Value, Short}
 

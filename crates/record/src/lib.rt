@@ -1,4 +1,6 @@
 // Reading one record.
+#![tactic(auto)]
+
 ghost use Rattle.std.specs.Prelude.{◌≡◌, ◌≤◌, length};
 ghost use Rattle.page_spec.specs.Sane.{Sane};
 ghost use Rattle.page_spec.specs.Bgp4mp.{longest_message};

@@ -1,3 +1,5 @@
+#![tactic(auto)]
+
 // What reading shows. A place is an offset from the record's header; a part is octets that stay where they lie.
 #[derive(Clone, Copy)]
 pub struct Part {

@@ -1,4 +1,6 @@
 // Type 13, subtypes 2 to 6: RIB records. m is the record from its header to its last octet.
+#![tactic(auto)]
+
 ghost use Rattle.std.specs.Prelude.{◌≡◌, ◌+◌, ◌≤◌};
 ghost use Rattle.form_spec.specs.Fmt.{end};
 ghost use Rattle.form_spec.specs.Pass.{pass, whole, times};

@@ -1,3 +1,5 @@
+#![tactic(auto)]
+
 // What a call answers that writes into lent room.
 #[derive(Drop)]
 pub enum Written {

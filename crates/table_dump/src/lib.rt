@@ -1,4 +1,6 @@
 // Type 12. m is the record from its header to its last octet.
+#![tactic(auto)]
+
 ghost use Rattle.std.specs.Prelude.{◌≡◌, ◌+◌, ◌≤◌};
 ghost use Rattle.form_spec.specs.Fmt.{end};
 ghost use Rattle.form_spec.specs.Pass.{whole};

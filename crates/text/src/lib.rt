@@ -1,4 +1,6 @@
 // Text in UTF-8.
+#![tactic(auto)]
+
 ghost use Rattle.std.specs.Prelude.{◌≡◌, true, ◌≤◌, ◌<◌, length};
 ghost use Rattle.text_spec.specs.Check.{least, most, start_of, is_text};
 ghost use Rattle.text.specs.Over.{Over, Ends};

@@ -1,3 +1,5 @@
+#![tactic(auto)]
+
 // A record's time: a Timestamp, or one with microseconds.
 #[derive(Clone, Copy)]
 pub enum Time {

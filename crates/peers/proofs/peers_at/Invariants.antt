@@ -1,5 +1,5 @@
 use mathlib.Core.Path.{◌≡◌}
-use Rattle.octets_laws.proofs.Items.{goes, over}
+use Rattle.octets_laws.proofs.Items.{goes}
 use Rattle.page_spec.specs.Peers.{peer}
 use Rattle.record_spec.specs.Fields as show
 use Rattle.record_spec.specs.declared.Peer.TheVariants.{Bad}

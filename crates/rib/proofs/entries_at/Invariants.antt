@@ -1,5 +1,5 @@
 use mathlib.Core.Path.{◌≡◌}
-use Rattle.octets_laws.proofs.Items.{goes, over}
+use Rattle.octets_laws.proofs.Items.{goes}
 use Rattle.page_spec.specs.Rib.{entry}
 use Rattle.record_spec.specs.Fields as show
 use Rattle.record_spec.specs.declared.Entry.TheVariants.{Bad}
