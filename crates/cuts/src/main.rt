@@ -7,6 +7,7 @@ ghost use Rattle.std.specs.Prelude.{◌+◌, ◌*◌, ◌≤◌, ◌<◌, length
 
 use octets::number;
 use room_spec::Written;
+use std::fs::File;
 use std::io;
 use streams::{arg_count, named, read_full};
 
@@ -134,16 +135,27 @@ fn case(rt: &impl Print, s: &[u8], mutes: &mut [u32], out: &mut [u8]) -> io::Res
     report(rt, r, out)
 }
 
+// The case that a file holds.
+fn case_of(
+    rt: &impl Print,
+    mut from: File,
+    file: &mut [u8; 524288],
+    mutes: &mut [u32; 65536],
+    out: &mut [u8; 524288],
+) -> io::Result<()> {
+    let got = read_full(&mut from, file)?;
+    drop(from);
+    case(rt, &file[..got], mutes, out)
+}
+
 fn one(rt: &HostRuntime, i: usize) -> io::Result<()> {
-    let Some(mut from) = named(rt, i)? else {
+    let Some(from) = named(rt, i)? else {
         return Ok(());
     };
     let mut file = [0u8; 524288];
-    let got = read_full(&mut from, &mut file)?;
-    drop(from);
     let mut mutes = [0u32; 65536];
     let mut out = [165u8; 524288];
-    case(rt, &file[..got], &mut mutes, &mut out)
+    case_of(rt, from, &mut file, &mut mutes, &mut out)
 }
 
 fn main(rt: HostRuntime) -> io::Result<()> {
