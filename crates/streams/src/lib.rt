@@ -1,7 +1,8 @@
 // What the programs take from std: octets read into a lent buffer, and the file that an argument names.
 #![tactic(auto)]
 
-ghost use Rattle.std.specs.Prelude.{◌≤◌, IfOk, length};
+ghost use Rattle.std.specs.Io.KnownBytes.{Consumes, IsAtEnd};
+ghost use Rattle.std.specs.Prelude.{◌<◌, ◌≤◌, IfOk, length, take};
 
 use std::alloc::Global;
 use std::env::FillError;
@@ -12,13 +13,15 @@ use std::rt::{Env, Files};
 
 // Reads until buf is full or the input ends, and answers how many octets it put at the start of buf.
 pub fn read_full<R: Read>(from: &mut R, buf: &mut [u8]) -> io::Result<usize>
-    ensures { IfOk result (λ n. n ≤ length buf.new) }
+    ensures in_bounds { IfOk result (λ n. n ≤ length buf.new) }
+    ensures octets { IfOk result (λ n. Consumes (R.remaining from.old) (R.remaining from.new) (take n buf.new)) }
+    ensures end { IfOk result (λ n. n < length buf.new → IsAtEnd (R.remaining from.new)) }
 {
     let mut done = 0;
     while done < buf.len() {
         let n = from.read(&mut buf[done..])?;
         if n == 0 {
-            break;
+            return Ok(done);
         }
         done += n;
     }
