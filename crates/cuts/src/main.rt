@@ -1,22 +1,26 @@
 // Runs the cut that each file holds which an argument names: start and end of the window (8 octets each), the room lent (4), the
 // number of muted AS numbers (2), these (4 each), and the dump. Prints the answer, the octets written (of more than 65,536 their
 // Adler-32, as RFC 1950 has it), and whether the rest of the room is as it was.
+#![tactic(auto)]
+
 ghost use Rattle.std.specs.Prelude.{◌+◌, ◌*◌, ◌≤◌, ◌<◌, length};
 
-use libc::STDOUT_FILENO;
 use octets::number;
 use room_spec::Written;
+use std::fs::File;
+use std::io;
+use streams::{arg_count, named, read_full};
 
-fn key(name: &[u8], value: u64) {
-    io::write_all(STDOUT_FILENO, name);
-    io::print_decimal(STDOUT_FILENO, value);
+fn key(rt: &impl Print, name: &[u8], value: u64) -> io::Result<()> {
+    rt.write_all(name)?;
+    print!(rt; "{value}")
 }
 
-fn answer(fault: u8, place: usize, octets: usize) {
-    key(b"fault=", fault as u64);
-    key(b" place=", place as u64);
-    key(b" octets=", octets as u64);
-    io::write_all(STDOUT_FILENO, b"\n");
+fn answer(rt: &impl Print, fault: u8, place: usize, octets: usize) -> io::Result<()> {
+    key(rt, b"fault=", fault as u64)?;
+    key(rt, b" place=", place as u64)?;
+    key(rt, b" octets=", octets as u64)?;
+    rt.write_all(b"\n")
 }
 
 fn wide(x: u8) -> u64
@@ -26,105 +30,96 @@ fn wide(x: u8) -> u64
 }
 
 // The first n octets, 32 to a line.
-fn octets(out: &[u8], n: usize)
+fn octets(rt: &impl Print, out: &[u8], n: usize) -> io::Result<()>
     requires { n ≤ length out.now }
 {
-    let mut i = 0;
-    while i < n {
-        io::print_hex(STDOUT_FILENO, wide(out[i]), 2);
-        i += 1;
-        if i % 32 == 0 {
-            io::write_all(STDOUT_FILENO, b"\n");
+    for i in 0..n {
+        print!(rt; "{:02x}", wide(out[i]))?;
+        if (i + 1) % 32 == 0 {
+            rt.write_all(b"\n")?;
         }
     }
     if n % 32 != 0 {
-        io::write_all(STDOUT_FILENO, b"\n");
+        rt.write_all(b"\n")?;
     }
+    Ok(())
 }
 
 // The Adler-32 of the first n octets.
-fn digest(out: &[u8], n: usize)
+fn digest(rt: &impl Print, out: &[u8], n: usize) -> io::Result<()>
     requires { n ≤ length out.now }
 {
     let mut low: u64 = 1;
     let mut high: u64 = 0;
-    let mut i = 0;
-    while i < n {
+    for i in 0..n {
         low = (low + wide(out[i])) % 65521;
         high = (high + low) % 65521;
-        i += 1;
     }
-    key(b"adler32=", 65536 * high + low);
-    io::write_all(STDOUT_FILENO, b"\n");
+    key(rt, b"adler32=", 65536 * high + low)?;
+    rt.write_all(b"\n")
 }
 
-fn written(out: &[u8], n: usize)
+fn written(rt: &impl Print, out: &[u8], n: usize) -> io::Result<()>
     requires { n ≤ length out.now }
 {
     if 65536 < n {
-        digest(out, n);
-        return;
+        return digest(rt, out, n);
     }
-    octets(out, n)
+    octets(rt, out, n)
 }
 
 // Whether the octets from n on are as they were.
-fn rest(out: &[u8], n: usize) {
-    let mut i = n;
-    while i < out.len() {
+fn rest(rt: &impl Print, out: &[u8], n: usize) -> io::Result<()> {
+    for i in n..out.len() {
         if out[i] != 165 {
-            io::write_all(STDOUT_FILENO, b"rest=touched\n");
-            return;
+            return rt.write_all(b"rest=touched\n");
         }
-        i += 1;
     }
-    io::write_all(STDOUT_FILENO, b"rest=ok\n");
+    rt.write_all(b"rest=ok\n")
 }
 
 fn list(s: &[u8], count: usize, mutes: &mut [u32])
     requires count_in_bounds { 22 + 4 * count ≤ length s.now }
     requires count_in_bounds_2 { count ≤ length mutes.old }
 {
-    let mut i = 0;
-    while i < count {
+    for i in 0..count {
         mutes[i] = number(s, 22 + 4 * i, 4) as u32;
-        i += 1;
     }
 }
 
 // The answer, the octets written and the rest.
-fn report(r: Written, out: &[u8]) {
+fn report(rt: &impl Print, r: Written, out: &[u8]) -> io::Result<()> {
     match r {
         Written::Octets(n) => {
-            answer(0, 0, n);
+            answer(rt, 0, 0, n)?;
             if n <= out.len() {
-                written(out, n);
+                written(rt, out, n)?;
             }
-            rest(out, n);
+            rest(rt, out, n)
         }
         Written::Refused(n, p) => {
-            answer(n, p, 0);
-            rest(out, 0);
+            answer(rt, n, p, 0)?;
+            rest(rt, out, 0)
         }
     }
 }
 
-fn case(s: &[u8], mutes: &mut [u32], out: &mut [u8]) {
+fn case(rt: &impl Print, s: &[u8], mutes: &mut [u32], out: &mut [u8]) -> io::Result<()> {
     if s.len() < 22 {
-        return;
+        return Ok(());
     }
     let start = number(s, 0, 8);
     let end = number(s, 8, 8);
     let room = number(s, 16, 4) as usize;
     let count = number(s, 20, 2) as usize;
     if s.len() - 22 < 4 * count {
-        return;
+        return Ok(());
     }
     if mutes.len() < count {
-        return;
+        return Ok(());
     }
     if out.len() < room {
-        return;
+        return Ok(());
     }
     list(s, count, mutes);
     let zero = 0;
@@ -137,29 +132,35 @@ fn case(s: &[u8], mutes: &mut [u32], out: &mut [u8]) {
         &mutes[zero..count],
         &mut out[zero..room],
     );
-    report(r, out);
+    report(rt, r, out)
 }
 
-fn one(i: usize) {
-    let mut path = io::buffer();
-    let n = os::arg(i, &mut path);
-    io::write_all(STDOUT_FILENO, &path[..n]);
-    io::write_all(STDOUT_FILENO, b"\n");
-    let fd = os::open_read(&path[..n]);
-    if fd < 0 {
-        os::fail(&path[..n]);
-        return;
-    }
+// The case that a file holds.
+fn case_of(
+    rt: &impl Print,
+    mut from: File,
+    file: &mut [u8; 524288],
+    mutes: &mut [u32; 65536],
+    out: &mut [u8; 524288],
+) -> io::Result<()> {
+    let got = read_full(&mut from, file)?;
+    drop(from);
+    case(rt, &file[..got], mutes, out)
+}
+
+fn one(rt: &HostRuntime, i: usize) -> io::Result<()> {
+    let Some(from) = named(rt, i)? else {
+        return Ok(());
+    };
     let mut file = [0u8; 524288];
-    let got = io::read_full(fd, &mut file);
-    libc::close(fd);
     let mut mutes = [0u32; 65536];
     let mut out = [165u8; 524288];
-    case(&file[..got], &mut mutes, &mut out);
+    case_of(rt, from, &mut file, &mut mutes, &mut out)
 }
 
-fn main() {
-    for i in 1..os::arg_count() {
-        one(i);
+fn main(rt: HostRuntime) -> io::Result<()> {
+    for i in 1..arg_count(&rt) {
+        one(&rt, i)?;
     }
+    Ok(())
 }

@@ -36,8 +36,7 @@ use walk::{step_with, walk};
 use walk_spec::{Item, Step};
 
 // The first fault's number and place, or 0 and the dump's length, and how many records stand before it.
-#[unsafe(no_mangle)]
-pub extern "C" fn dagsumilat_check(dump: &[u8], answer: &mut [u64; 3])
+pub fn dagsumilat_check(dump: &[u8], answer: &mut [u64; 3])
     ensures { answer.new ≡ words.check_words answer.old (walked longest_message dump.now) }
 {
     let w = walk(dump);
@@ -50,16 +49,14 @@ pub extern "C" fn dagsumilat_check(dump: &[u8], answer: &mut [u64; 3])
 }
 
 // The same, and where the faulty record starts, or the dump's length.
-#[unsafe(no_mangle)]
-pub extern "C" fn dagsumilat_first_fault(dump: &[u8], answer: &mut [u64; 4])
+pub fn dagsumilat_first_fault(dump: &[u8], answer: &mut [u64; 4])
     ensures { answer.new ≡ words.fault_words answer.old (walked longest_message dump.now) }
 {
     dagsumilat_fault::first_fault(dump, answer);
 }
 
 // What is left of a dump inside a window, without the peers whose AS is on the list.
-#[unsafe(no_mangle)]
-pub extern "C" fn dagsumilat_cut(
+pub fn dagsumilat_cut(
     dump: &[u8],
     from: u64,
     to: u64,
@@ -84,8 +81,7 @@ pub extern "C" fn dagsumilat_cut(
 }
 
 // A dump's records, state changes, breaks of type 12's sequence and table of states added to a report.
-#[unsafe(no_mangle)]
-pub extern "C" fn dagsumilat_report(dump: &[u8], report: &mut [u64; 39], answer: &mut [u64; 2])
+pub fn dagsumilat_report(dump: &[u8], report: &mut [u64; 39], answer: &mut [u64; 2])
     ensures { (answer.new ≡ words.report_words answer.old (report_answer longest_message report.old dump.now)) × (report.new ≡ report_leaves longest_message report.old dump.now) }
 {
     dagsumilat_report::report(dump, report, answer)
@@ -187,8 +183,7 @@ fn answer_at(d: &[u8], at: usize, table: u64, longest: u64) -> RecordAnswer
 }
 
 // The record that starts at `at`, where `table` is the number of peers of the table in force.
-#[unsafe(no_mangle)]
-pub extern "C" fn dagsumilat_record(dump: &[u8], at: usize, table: u64, answer: &mut [u64; 10])
+pub fn dagsumilat_record(dump: &[u8], at: usize, table: u64, answer: &mut [u64; 10])
     ensures { answer.new ≡ words.record_words answer.old (answer_at longest_message table dump.now at) }
 {
     let t = answer_at(dump, at, table, LONGEST_MESSAGE);
@@ -211,8 +206,7 @@ pub extern "C" fn dagsumilat_record(dump: &[u8], at: usize, table: u64, answer: 
 }
 
 // The peer of a table that starts at `at`.
-#[unsafe(no_mangle)]
-pub extern "C" fn dagsumilat_peer(dump: &[u8], at: usize, answer: &mut [u64; 7])
+pub fn dagsumilat_peer(dump: &[u8], at: usize, answer: &mut [u64; 7])
     ensures { answer.new ≡ words.peer_words answer.old (peer_at dump.now at) }
 {
     match peer_at(dump, at) {
@@ -259,8 +253,7 @@ fn entry_fields(d: &[u8], at: usize) -> Entry
 }
 
 // The entry of a RIB record that starts at `at`. It is not judged: that was done with its record.
-#[unsafe(no_mangle)]
-pub extern "C" fn dagsumilat_entry(dump: &[u8], at: usize, answer: &mut [u64; 6])
+pub fn dagsumilat_entry(dump: &[u8], at: usize, answer: &mut [u64; 6])
     ensures { answer.new ≡ words.entry_words answer.old (unjudged_at dump.now at) }
 {
     match entry_fields(dump, at) {
@@ -286,16 +279,14 @@ pub extern "C" fn dagsumilat_entry(dump: &[u8], at: usize, answer: &mut [u64; 6]
 }
 
 // One record, all its fields; `table` is the number of peers of the table in force.
-#[unsafe(no_mangle)]
-pub extern "C" fn dagsumilat_read(octets: &[u8], table: u64, answer: &mut [u64; 20])
+pub fn dagsumilat_read(octets: &[u8], table: u64, answer: &mut [u64; 20])
     ensures { answer.new ≡ read_words answer.old (read_one longest_message (table_by_count table) octets.now) }
 {
     dagsumilat_read::read(octets, table, answer);
 }
 
 // A record of an unread type.
-#[unsafe(no_mangle)]
-pub extern "C" fn dagsumilat_write_unread(
+pub fn dagsumilat_write_unread(
     timestamp: u64,
     micro: u64,
     microseconds: u64,
@@ -320,8 +311,7 @@ pub extern "C" fn dagsumilat_write_unread(
 }
 
 // A record of type 12.
-#[unsafe(no_mangle)]
-pub extern "C" fn dagsumilat_write_table_dump(
+pub fn dagsumilat_write_table_dump(
     timestamp: u64,
     subtype: u64,
     view: u64,
@@ -345,8 +335,7 @@ pub extern "C" fn dagsumilat_write_table_dump(
 }
 
 // A peer table.
-#[unsafe(no_mangle)]
-pub extern "C" fn dagsumilat_write_peer_table(
+pub fn dagsumilat_write_peer_table(
     timestamp: u64,
     collector: u64,
     name: &[u8],
@@ -361,8 +350,7 @@ pub extern "C" fn dagsumilat_write_peer_table(
 }
 
 // A RIB record of one family.
-#[unsafe(no_mangle)]
-pub extern "C" fn dagsumilat_write_rib(
+pub fn dagsumilat_write_rib(
     timestamp: u64,
     subtype: u64,
     table: u64,
@@ -382,8 +370,7 @@ pub extern "C" fn dagsumilat_write_rib(
 }
 
 // A RIB record of subtype 6.
-#[unsafe(no_mangle)]
-pub extern "C" fn dagsumilat_write_rib_generic(
+pub fn dagsumilat_write_rib_generic(
     timestamp: u64,
     table: u64,
     sequence: u64,
@@ -404,8 +391,7 @@ pub extern "C" fn dagsumilat_write_rib_generic(
 }
 
 // A state change.
-#[unsafe(no_mangle)]
-pub extern "C" fn dagsumilat_write_change(
+pub fn dagsumilat_write_change(
     timestamp: u64,
     micro: u64,
     microseconds: u64,
@@ -442,8 +428,7 @@ pub extern "C" fn dagsumilat_write_change(
 }
 
 // A BGP message.
-#[unsafe(no_mangle)]
-pub extern "C" fn dagsumilat_write_message(
+pub fn dagsumilat_write_message(
     timestamp: u64,
     micro: u64,
     microseconds: u64,

@@ -1,10 +1,13 @@
 // Lists the dump that standard input gives. It reads one octet more than a listing takes, so that a longer dump is told from the longest.
-use libc::STDOUT_FILENO;
+#![tactic(auto)]
 
-fn main() {
+use std::io;
+use streams::read_full;
+
+fn main(rt: HostRuntime) -> io::Result<()> {
     let mut room = [0u8; 65537];
-    let n = io::read_full(0, &mut room);
+    let n = read_full(&mut rt.stdin(), &mut room)?;
     let mut text = [0u8; 524288];
     let k = listing::list(&room[..n], &mut text);
-    io::write_all(STDOUT_FILENO, &text[0..k]);
+    rt.write_all(&text[0..k])
 }

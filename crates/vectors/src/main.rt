@@ -1,31 +1,29 @@
 // Lists each file that an argument names, after a line with its name.
-use libc::STDOUT_FILENO;
+#![tactic(auto)]
 
-// The dump that a file descriptor gives. It reads one octet more than a listing takes, so that a longer dump is told from the longest.
-fn list_from(fd: i32) {
+use std::fs::File;
+use std::io;
+use streams::{arg_count, named, read_full};
+
+// The dump that a file gives. It reads one octet more than a listing takes, so that a longer dump is told from the longest.
+fn list_from(rt: &impl Print, file: &mut File) -> io::Result<()> {
     let mut room = [0u8; 65537];
-    let n = io::read_full(fd, &mut room);
+    let n = read_full(file, &mut room)?;
     let mut text = [0u8; 524288];
     let k = listing::list(&room[..n], &mut text);
-    io::write_all(STDOUT_FILENO, &text[0..k]);
+    rt.write_all(&text[0..k])
 }
 
-fn one(i: usize) {
-    let mut path = io::buffer();
-    let n = os::arg(i, &mut path);
-    io::write_all(STDOUT_FILENO, &path[..n]);
-    io::write_all(STDOUT_FILENO, b"\n");
-    let fd = os::open_read(&path[..n]);
-    if fd < 0 {
-        os::fail(&path[..n]);
-        return;
+fn one(rt: &HostRuntime, i: usize) -> io::Result<()> {
+    match named(rt, i)? {
+        Some(mut file) => list_from(rt, &mut file),
+        None => Ok(()),
     }
-    list_from(fd);
-    libc::close(fd);
 }
 
-fn main() {
-    for i in 1..os::arg_count() {
-        one(i);
+fn main(rt: HostRuntime) -> io::Result<()> {
+    for i in 1..arg_count(&rt) {
+        one(&rt, i)?;
     }
+    Ok(())
 }

@@ -2,12 +2,15 @@
 // sizes of three parts (4 each), and the parts. Numbers and parts are the writer's, in its order; a time is three numbers
 // (whether there are microseconds, seconds, microseconds), a table two (whether there is one, its peers). Prints the answer,
 // the octets written, and whether the rest of the room is as it was.
+#![tactic(auto)]
+
 ghost use Rattle.std.specs.Prelude.{◌≤◌, ◌<◌, length};
 
-use libc::STDOUT_FILENO;
 use octets::{number, part};
 use record_spec::Table;
 use room_spec::Written;
+use std::io;
+use streams::{arg_count, named, read_full};
 use write_bgp::{write_change, write_message};
 use write_peers::write_peer_table;
 use write_rib::{write_rib, write_rib_generic};
@@ -15,16 +18,16 @@ use write_spec::Time;
 use write_table_dump::write_table_dump;
 use write_unread::write_unread;
 
-fn key(name: &[u8], value: u64) {
-    io::write_all(STDOUT_FILENO, name);
-    io::print_decimal(STDOUT_FILENO, value);
+fn key(rt: &impl Print, name: &[u8], value: u64) -> io::Result<()> {
+    rt.write_all(name)?;
+    print!(rt; "{value}")
 }
 
-fn answer(fault: u8, place: usize, octets: usize) {
-    key(b"fault=", fault as u64);
-    key(b" place=", place as u64);
-    key(b" octets=", octets as u64);
-    io::write_all(STDOUT_FILENO, b"\n");
+fn answer(rt: &impl Print, fault: u8, place: usize, octets: usize) -> io::Result<()> {
+    key(rt, b"fault=", fault as u64)?;
+    key(rt, b" place=", place as u64)?;
+    key(rt, b" octets=", octets as u64)?;
+    rt.write_all(b"\n")
 }
 
 fn wide(x: u8) -> u64 {
@@ -32,48 +35,44 @@ fn wide(x: u8) -> u64 {
 }
 
 // The first n octets, 32 to a line.
-fn octets(out: &[u8], n: usize)
+fn octets(rt: &impl Print, out: &[u8], n: usize) -> io::Result<()>
     requires { n ≤ length out.now }
 {
-    let mut i = 0;
-    while i < n {
-        io::print_hex(STDOUT_FILENO, wide(out[i]), 2);
-        i += 1;
-        if i % 32 == 0 {
-            io::write_all(STDOUT_FILENO, b"\n");
+    for i in 0..n {
+        print!(rt; "{:02x}", wide(out[i]))?;
+        if (i + 1) % 32 == 0 {
+            rt.write_all(b"\n")?;
         }
     }
     if n % 32 != 0 {
-        io::write_all(STDOUT_FILENO, b"\n");
+        rt.write_all(b"\n")?;
     }
+    Ok(())
 }
 
 // Whether the octets from n on are as they were.
-fn rest(out: &[u8], n: usize) {
-    let mut i = n;
-    while i < out.len() {
+fn rest(rt: &impl Print, out: &[u8], n: usize) -> io::Result<()> {
+    for i in n..out.len() {
         if out[i] != 165 {
-            io::write_all(STDOUT_FILENO, b"rest=touched\n");
-            return;
+            return rt.write_all(b"rest=touched\n");
         }
-        i += 1;
     }
-    io::write_all(STDOUT_FILENO, b"rest=ok\n");
+    rt.write_all(b"rest=ok\n")
 }
 
 // The answer, the octets written and the rest.
-fn report(r: Written, out: &[u8]) {
+fn report(rt: &impl Print, r: Written, out: &[u8]) -> io::Result<()> {
     match r {
         Written::Octets(n) => {
-            answer(0, 0, n);
+            answer(rt, 0, 0, n)?;
             if n <= out.len() {
-                octets(out, n);
+                octets(rt, out, n)?;
             }
-            rest(out, n);
+            rest(rt, out, n)
         }
         Written::Refused(n, p) => {
-            answer(n, p, 0);
-            rest(out, 0);
+            answer(rt, n, p, 0)?;
+            rest(rt, out, 0)
         }
     }
 }
@@ -247,38 +246,33 @@ fn written(s: &[u8], out: &mut [u8]) -> Written
     }
 }
 
-fn case(s: &[u8], out: &mut [u8]) {
+fn case(rt: &impl Print, s: &[u8], out: &mut [u8]) -> io::Result<()> {
     if s.len() < 97 {
-        return;
+        return Ok(());
     }
     let room = number(s, 1, 4) as usize;
     if out.len() < room {
-        return;
+        return Ok(());
     }
     let zero = 0;
     let r = written(s, &mut out[zero..room]);
-    report(r, out);
+    report(rt, r, out)
 }
 
-fn one(i: usize) {
-    let mut path = io::buffer();
-    let n = os::arg(i, &mut path);
-    io::write_all(STDOUT_FILENO, &path[..n]);
-    io::write_all(STDOUT_FILENO, b"\n");
-    let fd = os::open_read(&path[..n]);
-    if fd < 0 {
-        os::fail(&path[..n]);
-        return;
-    }
+fn one(rt: &HostRuntime, i: usize) -> io::Result<()> {
+    let Some(mut from) = named(rt, i)? else {
+        return Ok(());
+    };
     let mut file = [0u8; 131072];
-    let got = io::read_full(fd, &mut file);
-    libc::close(fd);
+    let got = read_full(&mut from, &mut file)?;
+    drop(from);
     let mut out = [165u8; 131072];
-    case(&file[..got], &mut out);
+    case(rt, &file[..got], &mut out)
 }
 
-fn main() {
-    for i in 1..os::arg_count() {
-        one(i);
+fn main(rt: HostRuntime) -> io::Result<()> {
+    for i in 1..arg_count(&rt) {
+        one(&rt, i)?;
     }
+    Ok(())
 }
