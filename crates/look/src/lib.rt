@@ -1,5 +1,7 @@
 // Fields of a record that is known to be good, a line each: no check is made twice. d is the dump; the record starts at `at`.
 // What a caller knows of the record is `Known` or `Is`, what it learns of it `Shows`: the field that reading shows.
+#![tactic(auto)]
+
 ghost use Rattle.std.specs.Prelude.{◌≡◌, true, false, cond, ◌+◌, ◌*◌, ◌/◌, ◌%◌, ◌^◌, ◌≤◌, ◌<◌, eqb, length, drop, get_or};
 ghost use Rattle.form_spec.specs.Fmt.{join};
 ghost use Rattle.form_spec.specs.Shape.{as_of, index_of};

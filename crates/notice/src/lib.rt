@@ -1,4 +1,6 @@
 // What a report heeds in a record, and one more of it.
+#![tactic(auto)]
+
 ghost use Rattle.std.specs.Prelude.{◌≡◌, ◌+◌, ◌-◌, ◌^◌, ◌<◌, [], if◌then◌else◌, slice_index, slice_index_or};
 ghost use Rattle.look_spec.specs.Field.{Known, Shows};
 ghost use Rattle.report_spec.specs.Notice.{notice_of, InStates};

@@ -1,4 +1,6 @@
 // Document 01's answers for what reading one record showed, and its parts, where they lie.
+#![tactic(auto)]
+
 ghost use Rattle.std.specs.Prelude.{◌≡◌};
 ghost use Rattle.record_spec.specs.Answer as answer;
 

@@ -1,4 +1,5 @@
 // What a report heeds, and what counting and adding answer.
+#![tactic(auto)]
 
 // What a report heeds in one record.
 #[derive(Drop)]

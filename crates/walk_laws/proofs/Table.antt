@@ -1,13 +1,13 @@
 -- The table told behind a record that was shown tells the table in force behind it.
-use mathlib.Core.Path.{◌≡◌, refl, sym, ap, ◌∙◌}
-use mathlib.Core.List.{List, [], ◌∷◌, map}
+use mathlib.Core.Path.{◌≡◌, refl, sym, ◌∙◌}
+use mathlib.Core.List.{List, map}
 use Prim.Native.Nat.{ℕ}
 use native.Mathlib.Omega.{arith}
 use lib.ListN.{length, length-map}
 use Rattle.form_spec.specs.Body.{Body, plain, loose, listed}
 use Rattle.form_spec.specs.Shape.{St, items_of, as_of, after}
 use Rattle.form_spec.specs.Record.{Rec, next}
-use Rattle.form_spec.specs.Put.{nothing, items}
+use Rattle.form_spec.specs.Put.{items}
 use Rattle.form_spec.specs.Gives.{tail_of}
 use Rattle.page_spec.specs.Peers.{peer}
 use Rattle.page_spec.specs.Layout.{layout_for, layout, kind}

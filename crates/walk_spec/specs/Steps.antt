@@ -6,7 +6,6 @@ use Rattle.record_spec.specs.declared.Shown.{Shown}
 use Rattle.record_spec.specs.declared.Shown.TheVariants.{Nothing, Refused, Good}
 use Rattle.record_spec.specs.One.{read_one}
 use Rattle.record_spec.specs.Answer.{end, time, table_behind}
-use Rattle.walk_spec.specs.declared.Item.{Item}
 use Rattle.walk_spec.specs.declared.Step.{Step}
 use Rattle.walk_spec.specs.declared.Step.TheVariants.{End, Fault, Record}
 

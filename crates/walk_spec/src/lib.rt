@@ -1,4 +1,6 @@
 // What going through a dump answers. Offsets count from the dump's first octet.
+#![tactic(auto)]
+
 use record_spec::Table;
 
 // A record: where it starts, its time in microseconds, and where the next one starts.

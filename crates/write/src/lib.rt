@@ -1,4 +1,6 @@
 // What every writer shares: the verdict, and a record's header laid into the buffer.
+#![tactic(auto)]
+
 ghost use Rattle.std.specs.Prelude.{◌≡◌, List, ◌++◌, ◌+◌, ◌≤◌, length};
 ghost use Rattle.form_spec.specs.Octets.{to_be};
 ghost use Rattle.form_spec.specs.Fmt.{Fmt, join};

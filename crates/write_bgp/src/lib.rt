@@ -1,4 +1,6 @@
 // Writing types 16 and 17: state changes and BGP messages.
+#![tactic(auto)]
+
 ghost use Rattle.std.specs.Prelude.{◌≡◌, List, [], ◌∷◌, ℕ, ◌+◌, ◌≤◌, length};
 ghost use Rattle.form_spec.specs.Fmt.{Fmt, join};
 ghost use Rattle.form_spec.specs.Put.{Value, bytes, refusal, lay, fields_refusal};

@@ -1,4 +1,6 @@
 // Writing type 13, subtype 1: the peer table.
+#![tactic(auto)]
+
 ghost use Rattle.std.specs.Prelude.{◌≡◌, [], ◌∷◌, ◌++◌, ℕ, ◌+◌, ◌≤◌, length};
 ghost use Rattle.octets_spec.specs.Over.{over};
 ghost use Rattle.page_spec.specs.Bgp4mp.{longest_message};

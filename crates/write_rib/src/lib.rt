@@ -1,4 +1,6 @@
 // Writing type 13, subtypes 2 to 6: RIB records.
+#![tactic(auto)]
+
 ghost use Rattle.std.specs.Prelude.{◌≡◌, [], ◌∷◌, ◌++◌, ℕ, ◌+◌, ◌≤◌, length};
 ghost use Rattle.form_spec.specs.Fmt.{end, join};
 ghost use Rattle.page_spec.specs.Bgp4mp.{longest_message};

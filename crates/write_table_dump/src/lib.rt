@@ -1,4 +1,6 @@
 // Writing type 12.
+#![tactic(auto)]
+
 ghost use Rattle.std.specs.Prelude.{◌≡◌, [], ◌∷◌, ℕ, ◌+◌, ◌≤◌, length};
 ghost use Rattle.form_spec.specs.Fmt.{join};
 ghost use Rattle.page_spec.specs.Bgp4mp.{longest_message};

@@ -1,4 +1,6 @@
 // Writing records whose contents are carried unread.
+#![tactic(auto)]
+
 ghost use Rattle.std.specs.Prelude.{◌≡◌, ℕ};
 ghost use Rattle.form_spec.specs.Put.{fields_refusal};
 ghost use Rattle.page_spec.specs.Bgp4mp.{longest_message};
