@@ -1,5 +1,7 @@
 // Whether a record is good, asked in few steps and in no order: a yes is sure, and whatever is not sure goes to the reader, which
 // says what is wrong with it. m is the record from its header to its last octet.
+#![tactic(auto)]
+
 ghost use Rattle.std.specs.Prelude.{◌≡◌, true, cond, ℕ, ◌+◌, ◌≤◌, length};
 ghost use Rattle.form_spec.specs.Pass.{times};
 ghost use Rattle.form_spec.specs.Words.{in_range};

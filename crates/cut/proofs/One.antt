@@ -24,7 +24,6 @@ use Rattle.record_spec.specs.declared.Shown.TheVariants.{Nothing, Refused, Good}
 use Rattle.record_spec.specs.declared.Scope.{Scope}
 use Rattle.record_spec.specs.declared.States.{States}
 use Rattle.record_spec.specs.declared.Bgp.{Bgp}
-use Rattle.record_spec.specs.declared.Body.{Body}
 use Rattle.record_spec.specs.declared.Body.TheVariants.{Unread, TableDump, PeerTable, Rib, RibGeneric, Change, Message}
 use Rattle.record_spec.specs.Answer.{place, time}
 use Rattle.record_spec.specs.Tells.{Tells}

@@ -1,5 +1,7 @@
 // The cut: what is left of a dump inside a time window, without the peers on a list.
 // Behind the check the dump, d, is known to be good, and its records are only looked at.
+#![tactic(auto)]
+
 ghost use Rattle.std.specs.Prelude.{◌≡◌, true, ◌≤◌, leb, length};
 ghost use Rattle.form_spec.specs.Record.{next};
 ghost use Rattle.form_spec.specs.Dump.{Splits};

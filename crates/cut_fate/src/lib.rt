@@ -1,4 +1,6 @@
 // What becomes of a record in a cut. d is a dump whose records are good.
+#![tactic(auto)]
+
 ghost use Rattle.std.specs.Prelude.{◌≡◌, ◌&&◌, not, cond, leb, ltb};
 ghost use Rattle.look_spec.specs.Sort as sort;
 ghost use Rattle.look_spec.specs.Sort.{sort_of};

@@ -1,5 +1,7 @@
 // The items of a record in a cut: a RIB record's entries, and a table's peers. m is a dump whose records are good.
 // new_indexes has the new index of each peer of the table in force, 65535 for one that goes.
+#![tactic(auto)]
+
 ghost use Rattle.std.specs.Prelude.{◌≡◌, cond, true, false, [], map, ◌+◌, ◌^◌, ◌≤◌, ◌<◌, leb, length, drop, get_or, take};
 ghost use Rattle.form_spec.specs.Fmt.{join};
 ghost use Rattle.form_spec.specs.Body.{joins};

@@ -1,22 +1,21 @@
 -- The laws of a cut: its result is accepted; a cut of a cut is one cut; a cut goes through two dumps one by one; it is never longer.
 use mathlib.Core.Path.{◌≡◌, refl, sym, ap, ap₂, ◌∙◌, fun_ext}
-use mathlib.Core.Logic.{◌⊎◌, inl, inr, ⊎_elim}
-use mathlib.Core.Bool.{Bool, true, false, cond, not, ◌&&◌, ◌||◌, false≢true}
+use mathlib.Core.Logic.{inl, inr, ⊎_elim}
+use mathlib.Core.Bool.{Bool, true, false, not, ◌&&◌, ◌||◌, false≢true}
 use mathlib.Core.List.{List, [], ◌∷◌, ◌++◌}
 use mathlib.Core.Option.{Option, none, some}
-use Prim.Native.Nat.{ℕ, suc, ◌+◌, ◌≤◌, ◌<◌, min, max}
+use Prim.Native.Nat.{ℕ, suc, ◌≤◌, ◌<◌, min, max}
 use native.Mathlib.Omega.{arith}
 use lib.ListN.{length, get_or, length-append}
 use lib.Dec.{ltb, leb, eqb}
 use borrow.Author.Tests.{ltb-true, lt-ltb, leb-true, le-leb}
-use Rattle.form_spec.specs.Octets.{be}
 use Rattle.form_spec.specs.Fmt.{Fmt, Fits, join, find}
 use Rattle.form_spec.specs.Words.{checked}
 use Rattle.form_spec.specs.Body.{Body, plain, listed, joins, AllFits, spell, BodyFits, loose}
 use Rattle.form_spec.specs.Shape.{Layout, refuse, fields, unread, table, entries, St, no_table, with_peers, plan, after, micros_in, indexed, items_of, front_of, peer_as, as_of, index_of}
 use Rattle.form_spec.specs.Record.{Rec, write, Valid, layout_of, next, time_of}
 use Rattle.form_spec.specs.Dump.{writes, Valids, Splits, nexts}
-use Rattle.form_laws.proofs.Octets.{length-to_be, be-to_be, octets-to_be, be_below}
+use Rattle.form_laws.proofs.Octets.{length-to_be, be-to_be, octets-to_be}
 use Rattle.form_laws.proofs.Record.{length-write}
 use Rattle.form_laws.proofs.Shape.{entry_index}
 use Rattle.form_laws.proofs.Dump.{Shut, Below, after_below, valids_below, valids-append, writes-append, shows}

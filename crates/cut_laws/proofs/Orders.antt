@@ -1,13 +1,12 @@
 -- Orders for a cut in other words that mean the same: lists with the same members, and windows without a time in them.
 use mathlib.Core.Path.{◌≡◌, refl, sym, ap, ◌∙◌, fun_ext}
 use mathlib.Core.Bool.{Bool, true, false, ◌&&◌, ◌||◌}
-use mathlib.Core.List.{List, [], ◌∷◌, ◌++◌}
+use mathlib.Core.List.{List, ◌∷◌, ◌++◌}
 use Prim.Native.Nat.{ℕ, min, max, ◌≤◌}
 use native.Mathlib.Omega.{arith}
 use lib.Dec.{ltb, leb, eqb}
 use borrow.Author.Tests.{leb-true, le-ltb}
 use Rattle.form_spec.specs.Octets.{Octets}
-use Rattle.form_spec.specs.Words.{choose}
 use Rattle.page_spec.specs.Layout.{layout}
 use Rattle.walk_spec.specs.Walked.{walked}
 use Rattle.cut_spec.specs.Cut.{Cut, mem, cutting, cut}

@@ -11,7 +11,7 @@ use Rattle.form_spec.specs.Octets.{Octets}
 use Rattle.form_spec.specs.Fmt.{Fmt, end, Fits}
 use Rattle.form_spec.specs.Body.{Body, plain, listed, many, BodyFits, loose}
 use Rattle.form_spec.specs.Shape.{Layout, entries, St, no_table, with_peers, plan, after}
-use Rattle.form_spec.specs.Record.{Rec, write, size, next, time_of}
+use Rattle.form_spec.specs.Record.{Rec, write, next, time_of}
 use Rattle.form_spec.specs.Dump.{writes}
 use Rattle.form_spec.specs.Put as put
 use Rattle.form_spec.specs.Gives.{tail_of}

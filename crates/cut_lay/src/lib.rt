@@ -1,4 +1,6 @@
 // What is left of a record, laid in a lent buffer or only counted. d is a dump whose records are good.
+#![tactic(auto)]
+
 ghost use Rattle.std.specs.Prelude.{◌≡◌, ◌||◌, ◌+◌, ◌-◌, ◌≤◌, ◌<◌, ltb, eqb, length, drop};
 ghost use Rattle.form_spec.specs.Found.{Lie};
 ghost use Rattle.page_spec.specs.Rib.{entry};

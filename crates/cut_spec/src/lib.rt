@@ -1,4 +1,5 @@
 // Definitions and laws only.
+#![tactic(auto)]
 
 // What becomes of a record.
 #[derive(Drop)]

@@ -1,4 +1,6 @@
 // The library's calls for C and Rust (include/dagsumilat.h).
+#![tactic(auto)]
+
 ghost use Rattle.std.specs.Prelude.{◌≡◌};
 ghost use Rattle.page_spec.specs.Bgp4mp.{longest_message};
 ghost use Rattle.record_spec.specs.Items.{peer_at};

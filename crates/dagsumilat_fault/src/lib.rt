@@ -1,4 +1,6 @@
 // The call that tells a dump's first fault, and where the faulty record starts.
+#![tactic(auto)]
+
 ghost use Rattle.std.specs.Prelude.{◌≡◌};
 ghost use Rattle.page_spec.specs.Bgp4mp.{longest_message};
 ghost use Rattle.walk_spec.specs.Walked.{walked};

@@ -11,9 +11,6 @@ use Rattle.record_spec.specs.declared.Session.{Session}
 use Rattle.record_spec.specs.declared.Route.{Route}
 use Rattle.record_spec.specs.declared.Peers.{Peers}
 use Rattle.record_spec.specs.declared.Routes.{Routes}
-use Rattle.record_spec.specs.declared.Scope.{Scope}
-use Rattle.record_spec.specs.declared.States.{States}
-use Rattle.record_spec.specs.declared.Bgp.{Bgp}
 use Rattle.record_spec.specs.declared.Shown.{Shown}
 use Rattle.record_spec.specs.declared.Shown.TheVariants.{Good}
 use Rattle.record_spec.specs.declared.Body.{Body}

@@ -1,4 +1,6 @@
 // What reading one record shows, as the words of a call's answer.
+#![tactic(auto)]
+
 ghost use Rattle.std.specs.Prelude.{◌≡◌};
 ghost use Rattle.page_spec.specs.Bgp4mp.{longest_message};
 ghost use Rattle.record_spec.specs.One.{read_one};

@@ -1,4 +1,6 @@
 // The call that adds a dump to a report.
+#![tactic(auto)]
+
 ghost use Rattle.std.specs.Prelude.{◌≡◌};
 ghost use Rattle.page_spec.specs.Bgp4mp.{longest_message};
 ghost use Rattle.report_spec.specs.Answer.{report_answer, report_leaves};

@@ -2,7 +2,6 @@
 -- its offset from the record's header, and its size.
 use Rattle.std.specs.Prelude.{List, [], ◌∷◌, ◌++◌, ℕ, replicate}
 use Rattle.record_spec.specs.Answer.{of_body, fault, place, header_of}
-use Rattle.record_spec.specs.declared.Header.{Header}
 use Rattle.record_spec.specs.declared.Part.{Part}
 use Rattle.record_spec.specs.declared.Session.{Session}
 use Rattle.record_spec.specs.declared.Route.{Route}

@@ -1,3 +1,5 @@
+#![tactic(auto)]
+
 // A record: where it ends, the table in force behind it, its peer AS, where its items start, counted from its header, and how many
 // they are; or a fault's number and place.
 #[derive(Drop)]

@@ -1,4 +1,6 @@
 // Numbers that a call is handed, as what they stand for.
+#![tactic(auto)]
+
 ghost use Rattle.std.specs.Prelude.{◌≡◌};
 ghost use Rattle.dagsumilat_spec.specs.RecordAnswers.{table_by_count};
 ghost use Rattle.dagsumilat_spec.specs.WriteWords.{time_by};

@@ -1,4 +1,6 @@
 // Writing one record, with numbers for the time and the table and two words for the answer.
+#![tactic(auto)]
+
 ghost use Rattle.std.specs.Prelude.{◌≡◌};
 ghost use Rattle.form_spec.specs.Shape.{no_table};
 ghost use Rattle.page_spec.specs.Bgp4mp.{longest_message};

@@ -1,4 +1,6 @@
 // Whether an AS number is on the list of the muted.
+#![tactic(auto)]
+
 ghost use Rattle.std.specs.Prelude.{◌≡◌, ◌+◌, min, ◌<◌, length, drop};
 ghost use Rattle.cut_spec.specs.Cut.{mem};
 ghost use Rattle.mutes_spec.specs.Slots.{SlotsHold, Filled, empty_slots};

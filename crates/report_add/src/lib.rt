@@ -1,4 +1,6 @@
 // A dump's own report added to a report that a caller keeps: 39 numbers.
+#![tactic(auto)]
+
 ghost use Rattle.std.specs.Prelude.{◌≡◌, true, length};
 ghost use Rattle.page_spec.specs.Bgp4mp.{longest_message};
 ghost use Rattle.report_spec.specs.Sum.{sums, fit};

@@ -1,4 +1,6 @@
 // A dump's own report as text.
+#![tactic(auto)]
+
 ghost use Rattle.std.specs.Prelude.{◌≡◌, ◌++◌, ◌+◌, ◌≤◌, ◌<◌, length, drop};
 ghost use Rattle.page_spec.specs.Bgp4mp.{longest_message};
 ghost use Rattle.decimal_spec.specs.Ascii.{ascii};

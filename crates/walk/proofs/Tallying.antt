@@ -1,12 +1,11 @@
 -- The loop over a dump that counts: its numbers are those of the records behind it.
-use mathlib.Core.Path.{◌≡◌, refl, sym, ap, ◌∙◌}
-use mathlib.Core.Bool.{Bool, cond}
+use mathlib.Core.Path.{◌≡◌, refl, sym, ◌∙◌}
+use mathlib.Core.Bool.{Bool}
 use mathlib.Core.List.{List, [], ◌∷◌, ◌++◌, map, map-append}
-use Prim.Native.Nat.{ℕ, ◌+◌, ◌<◌}
+use Prim.Native.Nat.{ℕ, ◌+◌}
 use native.Mathlib.Omega.{arith}
 use native.Mathlib.Nat.{add-zero}
 use lib.ListN.{length, get_or, replicate, length-append, length-map}
-use Rattle.form_spec.specs.Octets.{Octets}
 use Rattle.form_spec.specs.Record.{Rec}
 use Rattle.form_spec.specs.Dump.{writes, walk_all}
 use Rattle.page_spec.specs.Layout.{layout}

@@ -1,6 +1,6 @@
 -- `accept::session` meets its contract.
 use mathlib.Core.Path.{◌≡◌}
-use mathlib.Core.Logic.{◌⊎◌, inl, inr, ⊎_elim}
+use mathlib.Core.Logic.{◌⊎◌, inl, inr}
 use Prim.Native.Nat.{◌≤◌}
 use Rattle.accept_laws.proofs.Runs.{never}
 use Rattle.accept_laws.proofs.Leaves.{change-sure, message-sure, six_on}

@@ -1,14 +1,11 @@
 -- `cut_items::fill_new_indexes` meets its contract.
 use mathlib.Core.Path.{ap, ◌∙◌}
-use mathlib.Core.Bool.{Bool}
-use mathlib.Core.List.{List}
-use Prim.Native.Nat.{ℕ, ◌-◌}
+use Prim.Native.Nat.{◌-◌}
 use native.Mathlib.Omega.{arith}
 use lib.ListN.{drop}
 use borrow.Author.Rules.{rules}
 use Rattle.form_spec.specs.Octets.{Octets}
 use Rattle.form_laws.proofs.Octets.{octets_of_lem}
-use Rattle.cut_spec.specs.Cut.{mem}
 use Rattle.page_spec.specs.Peers.{peer}
 use Rattle.form_spec.specs.Found.{item}
 use Rattle.form_laws.proofs.Found.{Next, next}

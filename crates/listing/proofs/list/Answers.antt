@@ -4,7 +4,6 @@ use native.Mathlib.Omega.{arith}
 use Rattle.page_spec.specs.Bgp4mp.{longest_message}
 use Rattle.listing_laws.proofs.Lays.{front}
 use Rattle.listing_laws.proofs.Listing.{all_large, all_walked}
-use borrow.Author.Rules.{rules}
 use Rattle.listing.proofs.list.Goals as goal
 
 pub returns-then-d-gt65536 : goal.returns-then-d-gt65536

@@ -5,7 +5,6 @@ use lib.ListN.{length, length-append, length-set}
 use Rattle.decimal_spec.specs.Decimal.{decimal}
 use Rattle.listing_spec.specs.Text.{line}
 use Rattle.listing_laws.proofs.Lays.{both, one, half, whole, double}
-use borrow.Author.Rules.{rules}
 use Rattle.listing.proofs.put_line.Goals.{Start}
 use Rattle.listing.proofs.put_line.Goals as goal
 

@@ -1,8 +1,6 @@
 -- `report_add::sum` meets its contract.
 use mathlib.Core.Path.{sym, ◌∙◌}
-use mathlib.Core.Bool.{true, false}
 use Rattle.form_spec.specs.Words.{choose}
-use Rattle.report_spec.specs.Sum.{fit}
 use Rattle.report_add.proofs.sum.Goals as goal
 
 pub put_sums-requires : goal.put_sums-requires

@@ -6,7 +6,6 @@ use Rattle.decimal_spec.specs.Decimal.{decimal}
 use Rattle.decimal_laws.proofs.Decimal.{decimal-length}
 use Rattle.listing_laws.proofs.Lays.{both, double}
 use Rattle.report_text.proofs.Cells.{none, cell_none, cell_some}
-use borrow.Author.Rules.{rules}
 use Rattle.report_text.proofs.put_cell.Goals.{Start}
 use Rattle.report_text.proofs.put_cell.Goals as goal
 

@@ -2,7 +2,6 @@
 use native.Mathlib.Omega.{arith}
 use Rattle.listing_laws.proofs.Lays.{both}
 use Rattle.report_text_spec.specs.Text.{report_lines}
-use borrow.Author.Rules.{rules}
 use Rattle.report_text.proofs.put_report.Goals as goal
 
 pub returns : goal.returns

@@ -4,7 +4,6 @@ use native.Mathlib.Omega.{arith}
 use Rattle.page_spec.specs.Bgp4mp.{longest_message}
 use Rattle.listing_laws.proofs.Lays.{front}
 use Rattle.report_text.proofs.Text.{all_large, all_tallied}
-use borrow.Author.Rules.{rules}
 use Rattle.report_text.proofs.render.Goals as goal
 
 pub returns-then-d-gt65536 : goal.returns-then-d-gt65536

@@ -3,16 +3,15 @@ use mathlib.Core.Path.{◌≡◌, refl, sym, ap, ◌∙◌}
 use mathlib.Core.Bool.{Bool, true, false, cond}
 use mathlib.Core.Logic.{◌⊎◌, inl, inr, ⊎_elim}
 use mathlib.Core.List.{List}
-use Prim.Native.Nat.{ℕ, ◌-◌, ◌≤◌, ◌<◌}
+use Prim.Native.Nat.{ℕ, ◌≤◌, ◌<◌}
 use native.Mathlib.Omega.{arith}
 use lib.Dec.{eqb}
-use lib.ListN.{length, take, drop, length-map}
+use lib.ListN.{length, drop, length-map}
 use Rattle.form_spec.specs.Octets.{Octets}
 use Rattle.form_laws.proofs.Octets.{octets_of_lem}
 use Rattle.record_spec.specs.declared.Table.{Table}
 use Rattle.record_spec.specs.declared.Shown.{Shown}
-use Rattle.record_spec.specs.One.{whole_record, read_one}
-use Rattle.accept_spec.specs.Sure.{Leaves}
+use Rattle.record_spec.specs.One.{read_one}
 use Rattle.look_spec.specs.Field.{Told}
 use Rattle.walk_spec.specs.Steps.{step_at}
 use Rattle.walk_spec.specs.declared.Step.{Step}
