@@ -30,12 +30,12 @@ use Rattle.feed_spec.specs.declared.Reach.{Reach}
 use Rattle.feed_spec.specs.declared.Reach.TheVariants.{Short, Large, Whole}
 use Rattle.feed_spec.specs.declared.Said.TheVariants as said
 use Rattle.feed_spec.specs.declared.Fed.{Fed}
-use Rattle.feed_spec.specs.Feed.{size_of, too_large, reach, unfit, there, taken_by, stays, takes, shows, tells, answers, goes_on, feeds, feed_leaves}
-use Rattle.feed_spec.specs.Chopped.{Call, Between, Told, chunk_of, called, after, told, told_by, Fair, Shows, ShowsAll}
+use Rattle.feed_spec.specs.Feed.{size_of, reach, unfit, there, taken_by, stays, takes, shows, tells, answers, goes_on, feed_leaves}
+use Rattle.feed_spec.specs.Chopped.{Call, Between, chunk_of, called, told, Fair, ShowsAll}
 use Rattle.feed_laws.proofs.Whole.{size_first, read_first}
 use Rattle.feed_laws.proofs.Sized.{record_sized}
 use Rattle.feed_laws.proofs.Past.{past}
-use Rattle.feed_laws.proofs.Reach.{Reached, IsShort, IsWhole, not_large, reached}
+use Rattle.feed_laws.proofs.Reach.{Reached, IsShort, not_large, reached}
 use Rattle.feed_laws.proofs.Room.{front_after}
 use Rattle.feed_laws.proofs.Goes.{not_unfit, goes_on_lem, end_again, fault_again}
 

@@ -1,8 +1,7 @@
 -- What a room holds after a call: what was taken of the chunk, behind what it held, and for the rest what it held before.
-use mathlib.Core.Path.{◌≡◌, sym, ap, ◌∙◌}
+use mathlib.Core.Path.{◌≡◌, sym}
 use mathlib.Core.List.{List, ◌++◌}
 use Prim.Native.Nat.{ℕ, ◌+◌, ◌≤◌}
-use native.Mathlib.Omega.{arith}
 use lib.ListN.{length, take, drop}
 use lib.Seq.{length-take-le, take-append-add, take-paste, drop-paste}
 use Rattle.octets_spec.specs.Over.{over}

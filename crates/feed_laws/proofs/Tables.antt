@@ -2,7 +2,7 @@
 use mathlib.Core.Path.{◌≡◌, refl, ap, subst}
 use mathlib.Core.Bool.{Bool, true, false}
 use mathlib.Core.List.{List, [], ◌∷◌}
-use Prim.Native.Nat.{ℕ, ◌-◌, ◌≤◌, ◌<◌}
+use Prim.Native.Nat.{ℕ, ◌<◌}
 use native.Mathlib.Omega.{arith}
 use lib.ListN.{length, take}
 use Rattle.form_spec.specs.Octets.{Octets}
@@ -32,7 +32,7 @@ use Rattle.feed_spec.specs.declared.Last.TheVariants.{Open}
 use Rattle.feed_spec.specs.declared.Said.TheVariants.{More}
 use Rattle.feed_spec.specs.declared.Fed.{Fed}
 use Rattle.feed_spec.specs.Feed.{reach, there, taken_by, takes, tells, answers, feeds}
-use Rattle.feed_laws.proofs.Goes.{Fit, by_way}
+use Rattle.feed_laws.proofs.Goes.{by_way}
 
 -- below what C's words have for no table
 abbrev pub Small : Table → Type 0

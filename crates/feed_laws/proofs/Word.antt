@@ -1,9 +1,9 @@
 -- 1 and 2 are said only with the sender's word: a record that is all there is refused with neither.
-use mathlib.Core.Path.{◌≡◌, refl, sym, ap, ◌∙◌}
-use mathlib.Core.Bool.{Bool, true, false}
+use mathlib.Core.Path.{◌≡◌, refl, ap, ◌∙◌}
+use mathlib.Core.Bool.{true, false}
 use mathlib.Core.Logic.{◌⊎◌, ⊎_elim}
-use mathlib.Core.List.{List, ◌++◌}
-use Prim.Native.Nat.{ℕ, ◌+◌, ◌-◌, ◌≤◌, ◌<◌}
+use mathlib.Core.List.{List}
+use Prim.Native.Nat.{ℕ, ◌+◌, ◌-◌, ◌≤◌}
 use native.Mathlib.Omega.{arith}
 use lib.ListN.{length, take}
 use Rattle.form_spec.specs.Octets.{Octets}
@@ -28,8 +28,8 @@ use Rattle.feed_spec.specs.declared.Reach.{Reach}
 use Rattle.feed_spec.specs.declared.Reach.TheVariants.{Short, Large, Whole}
 use Rattle.feed_spec.specs.declared.Said.TheVariants.{Fault}
 use Rattle.feed_spec.specs.declared.Fed.{Fed}
-use Rattle.feed_spec.specs.Feed.{size_of, reach, there, taken_by, tells, answers, goes_on, feeds}
-use Rattle.feed_laws.proofs.Goes.{Fit, by_room}
+use Rattle.feed_spec.specs.Feed.{size_of, reach, there, taken_by, tells, answers, feeds}
+use Rattle.feed_laws.proofs.Goes.{by_room}
 use Rattle.feed_laws.proofs.Reach.{Reached, reached}
 
 -- these two

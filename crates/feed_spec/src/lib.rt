@@ -1,4 +1,6 @@
 // A dump that arrives in chunks, with a lent room for one record: a feed, and what one call of it answers.
+#![tactic(auto)]
+
 use record_spec::Table;
 
 // The last word of a feed.
