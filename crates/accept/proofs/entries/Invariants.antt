@@ -5,7 +5,6 @@ use Rattle.page_spec.specs.Rib.{entry}
 use Rattle.accept_laws.specs.Runs.{Through}
 use Rattle.accept.proofs.entries.Given as goal
 
--- `accept::entries` meets its contract.
 abbrev pub invariant-loop-left : goal.invariant-loop-left
 invariant-loop-left l = (l.at ≤ length l.m) × (Through (times l.left (entry l.peers)) l.m l.at → Through (times l.entry_count (entry l.peers)) l.m l.from)
 

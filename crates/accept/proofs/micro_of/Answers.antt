@@ -4,7 +4,6 @@ use native.Mathlib.Omega.{arith}
 use mathlib.Core.Path.{refl}
 use Rattle.accept.proofs.micro_of.Goals as goal
 
--- `accept::micro_of` meets its contract.
 pub returns-then-ty-eq17 : goal.returns-then-ty-eq17
 returns-then-ty-eq17 c = rw (eq-eqb _ 17 c.if-ty-eq17.true) (refl, omega arith)
 

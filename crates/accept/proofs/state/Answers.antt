@@ -5,7 +5,6 @@ use Rattle.octets_laws.proofs.Rules.{inside}
 use Rattle.accept_laws.proofs.Runs.{never}
 use Rattle.accept.proofs.state.Goals as goal
 
--- `accept::state` meets its contract.
 pub returns-then-n-eq0 : goal.returns-then-n-eq0
 returns-then-n-eq0 c = never
 

@@ -3,7 +3,6 @@ use lib.ListN.{length}
 use Rattle.attr.proofs.Laws.{Going}
 use Rattle.attr.proofs.attributes_end.Given as goal
 
--- `attr::attributes_end` meets its contract.
 abbrev pub invariant-loop-at : goal.invariant-loop-at
 invariant-loop-at l = Going l.m l.at
 

@@ -4,7 +4,6 @@ use Rattle.form_spec.specs.Words.{choose}
 use Rattle.bgp.specs.Size.{address_size}
 use Rattle.bgp.proofs.address_size.Goals as goal
 
--- `bgp::address_size` meets its contract.
 pub returns-in-1 : goal.returns-in-1
 unfolding address_size choose
 returns-in-1 c = rw c.in-1.is

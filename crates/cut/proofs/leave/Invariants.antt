@@ -3,7 +3,6 @@ use lib.ListN.{length}
 use Rattle.cut.proofs.Turn.{Turn}
 use Rattle.cut.proofs.leave.Given as goal
 
--- `cut::leave` meets its contract.
 abbrev pub invariant-loop-at : goal.invariant-loop-at
 invariant-loop-at l = Turn l.longest l.w.start l.w.end l.mutes l.d l.lays l.new_indexes l.initial.out l.out l.at l.s l.f
 

@@ -15,7 +15,6 @@ use Rattle.cut.proofs.Turn.{length-filled, none_lost}
 use Rattle.cut.proofs.table_behind.Goals.{After-count-peers, After-peer_count_at-counted, After-shared_slice_known-1, Start, Then-table}
 use Rattle.cut.proofs.table_behind.Goals as goal
 
--- `cut::table_behind` meets its contract.
 octets : (c : After-shared_slice_known-1) → Octets c.args.d.now
 octets c =
     octets_of_lem c.args.d.now (λ k. omega (arith, c.shared_slice_known-1.given k))

@@ -2,7 +2,6 @@
 use borrow.Author.Tests.{lt-leb, le-leb}
 use Rattle.cut_fate.proofs.inside.Goals as goal
 
--- `cut_fate::inside` meets its contract.
 pub returns-then-time-start : goal.returns-then-time-start
 returns-then-time-start c = simp (lt-leb _ _ c.if-time-start.true)
 

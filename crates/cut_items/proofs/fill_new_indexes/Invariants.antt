@@ -8,7 +8,6 @@ use Rattle.form_spec.specs.Found.{items}
 use Rattle.cut_items.proofs.NewIndexes.{Filling}
 use Rattle.cut_items.proofs.fill_new_indexes.Given as goal
 
--- `cut_items::fill_new_indexes` meets its contract.
 abbrev pub gone : List ℕ → ℕ → Bool
 gone mutes n = mem n mutes
 

@@ -6,7 +6,6 @@ use Rattle.cut_spec.specs.Moved.{moved}
 use Rattle.cut_items.proofs.Loop.{Laying}
 use Rattle.cut_items.proofs.lay_entries.Given as goal
 
--- `cut_items::lay_entries` meets its contract.
 abbrev pub invariant-loop-left : goal.invariant-loop-left
 invariant-loop-left l = Laying (entry l.peers) (λ (i : ℕ). moved l.new_indexes) l.lays l.m (items (entry l.peers) l.count (drop l.from l.m)) l.count l.initial.out l.put l.out l.at (l.count - l.left) l.left l.s.kept l.s.end
 

@@ -6,7 +6,6 @@ use Rattle.cut_spec.specs.Moved.{sieved}
 use Rattle.cut_items.proofs.Loop.{Laying}
 use Rattle.cut_items.proofs.lay_peers.Given as goal
 
--- `cut_items::lay_peers` meets its contract.
 abbrev pub invariant-loop-i : goal.invariant-loop-i
 invariant-loop-i l = Laying peer (sieved l.new_indexes) l.lays l.m (items peer l.count (drop l.from l.m)) l.count l.initial.out l.put l.out l.at l.i (l.count - l.i) l.s.kept l.s.end
 

@@ -16,7 +16,6 @@ use borrow.Author.Rules.{rules}
 use Rattle.cut_lay.proofs.lay_rib.Goals.{Start}
 use Rattle.cut_lay.proofs.lay_rib.Goals as goal
 
--- `cut_lay::lay_rib` meets its contract: nothing is laid of a record that lost all its entries.
 -- the entries that stay, and the record with them
 abbrev its : (c : Start) → List (List (List ℕ))
 its c =

@@ -12,7 +12,6 @@ use borrow.Author.Rules.{rules}
 use Rattle.cut_lay.proofs.lay_table.Goals.{Start}
 use Rattle.cut_lay.proofs.lay_table.Goals as goal
 
--- `cut_lay::lay_table` meets its contract.
 -- the peers that stay
 abbrev its : (c : Start) → List (List (List ℕ))
 its c =

@@ -4,7 +4,6 @@ use Rattle.look_laws.proofs.Sort.{sort_first, sort_other}
 use Rattle.look_laws.proofs.There.{sorted}
 use Rattle.dagsumilat.proofs.counted_at.Goals as goal
 
--- `dagsumilat::counted_at` meets its contract.
 pub peer_count_at-requires : goal.peer_count_at-requires
 peer_count_at-requires c =
     let k = c.requires in

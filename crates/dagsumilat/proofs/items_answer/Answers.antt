@@ -5,7 +5,6 @@ use Rattle.look_laws.proofs.There.{items-counted}
 use Rattle.dagsumilat.proofs.items_answer.Goals.{After-counted_at-counted}
 use Rattle.dagsumilat.proofs.items_answer.Goals as goal
 
--- `dagsumilat::items_answer` meets its contract.
 -- where its count stands
 there : (c : After-counted_at-counted) → Counted c.args.d.now c.args.at c.counted_at-counted.result (shown c.requires.0 c.args.d.now c.args.at)
 there c =

@@ -3,7 +3,6 @@ use borrow.Author.Tests.{ne_eqb}
 use Rattle.form_spec.specs.Words.{choose}
 use Rattle.dagsumilat_told.proofs.table_of.Goals as goal
 
--- `dagsumilat_told::table_of` meets its contract.
 pub returns-then-table-eq18446744073709551615 : goal.returns-then-table-eq18446744073709551615
 unfolding choose
 returns-then-table-eq18446744073709551615 c = rw c.if-table-eq18446744073709551615.true

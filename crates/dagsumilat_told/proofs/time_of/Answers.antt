@@ -3,7 +3,6 @@ use borrow.Author.Tests.{ne_eqb}
 use Rattle.form_spec.specs.Words.{choose}
 use Rattle.dagsumilat_told.proofs.time_of.Goals as goal
 
--- `dagsumilat_told::time_of` meets its contract.
 pub returns-then-micro-eq0 : goal.returns-then-micro-eq0
 unfolding choose
 returns-then-micro-eq0 c = rw c.if-micro-eq0.true

@@ -4,7 +4,6 @@ use Rattle.decimal_laws.proofs.Reading.{no_digit_below, no_digit_above}
 use Rattle.decimal.proofs.Valued.{past_end, no_digit, a_digit}
 use Rattle.decimal.proofs.digit_at.Goals as goal
 
--- `decimal::digit_at` meets its contract.
 pub returns-then-s-at : goal.returns-then-s-at
 returns-then-s-at c = past_end _ _ c.if-s-at.true
 

@@ -3,7 +3,6 @@ use lib.ListN.{length}
 use Rattle.decimal.proofs.Valued.{Spelling}
 use Rattle.decimal.proofs.valued_at.Given as goal
 
--- `decimal::valued_at` meets its contract.
 abbrev pub invariant-loop-at : goal.invariant-loop-at
 invariant-loop-at l = Spelling l.most l.s l.at l.i l.v
 

@@ -5,7 +5,6 @@ use Rattle.page_spec.specs.Bgp4mp.{longest_message}
 use Rattle.listing.proofs.Listed.{Listed}
 use Rattle.listing.proofs.lay.Given as goal
 
--- `listing::lay` meets its contract.
 abbrev pub invariant-loop-out : goal.invariant-loop-out
 invariant-loop-out l = (length l.out ≡ length l.initial.out) × Listed longest_message l.d l.initial.out l.out l.at l.t l.put
 

@@ -5,7 +5,6 @@ use lib.ListN.{length-append}
 use Rattle.listing_laws.proofs.Lays.{both}
 use Rattle.listing.proofs.put_entry.Goals as goal
 
--- `listing::put_entry` meets its contract: the number goes behind the key.
 pub put_bytes-requires : goal.put_bytes-requires
 put_bytes-requires c = omega (arith, simp length-append at c.requires)
 

@@ -8,7 +8,6 @@ use Rattle.listing_laws.proofs.Lays.{both, one, short, double}
 use Rattle.listing.proofs.put_fault.Goals.{Start}
 use Rattle.listing.proofs.put_fault.Goals as goal
 
--- `listing::put_fault` meets its contract: the place goes behind the fault, and two numbers of these widths leave room for both.
 -- how many digits the numbers have
 bounds : (s : Start) → (length (decimal s.args.fault) ≤ 3) × (length (decimal s.args.place) ≤ 20)
 bounds s =

@@ -8,7 +8,6 @@ use Rattle.listing_laws.proofs.Lays.{both, one, half, whole, double}
 use Rattle.listing.proofs.put_line.Goals.{Start}
 use Rattle.listing.proofs.put_line.Goals as goal
 
--- `listing::put_line` meets its contract: each entry goes behind the one before, and five numbers of these widths leave room for all of them.
 -- how many digits the numbers have
 bounds : (s : Start) → let a = s.args in
     (length (decimal a.at) ≤ 20) × (length (decimal a.time) ≤ 20) × (length (decimal a.ty) ≤ 5) × (length (decimal a.subtype) ≤ 5) × (length (decimal a.octets) ≤ 10)

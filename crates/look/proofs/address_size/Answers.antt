@@ -3,7 +3,6 @@ use borrow.Author.Tests.{eq-eqb, ne_eqb}
 use borrow.Author.Rules.{rules}
 use Rattle.look.proofs.address_size.Goals as goal
 
--- `look::address_size` meets its contract.
 pub returns-then-kind-eq1 : goal.returns-then-kind-eq1
 returns-then-kind-eq1 c = (rw (eq-eqb _ _ c.if-kind-eq1.true), search rules)
 

@@ -3,7 +3,6 @@ use native.Mathlib.Omega.{arith}
 use Rattle.look_laws.proofs.Width.{width_seven, width_four, width_other}
 use Rattle.look.proofs.as_width.Goals as goal
 
--- `look::as_width` meets its contract.
 pub returns-in_default : goal.returns-in_default
 returns-in_default c = (width_other _ (λ e. omega arith) (λ e. omega arith) (λ e. omega arith), omega arith)
 

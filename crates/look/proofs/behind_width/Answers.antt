@@ -3,7 +3,6 @@ use native.Mathlib.Omega.{arith}
 use borrow.Author.Tests.{eq-eqb, ne_eqb}
 use Rattle.look.proofs.behind_width.Goals as goal
 
--- `look::behind_width` meets its contract.
 pub returns-then-width-eq4 : goal.returns-then-width-eq4
 returns-then-width-eq4 c = (rw (eq-eqb _ 4 c.if-width-eq4.true), omega arith)
 

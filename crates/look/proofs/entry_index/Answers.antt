@@ -11,7 +11,6 @@ use Rattle.look_laws.proofs.Items.{EntryAt, entry_at}
 use Rattle.look.proofs.entry_index.Goals.{After-shared_slice_known-1}
 use Rattle.look.proofs.entry_index.Goals as goal
 
--- `look::entry_index` meets its contract.
 there : (c : After-shared_slice_known-1) → let a = c.args in (n : ℕ) → Lies (entry n) (drop a.at a.d.now) → EntryAt a.d.now a.at (item (entry n) (drop a.at a.d.now))
 there c n h =
     let a = c.args in entry_at a.d.now a.at n (octets_of_lem a.d.now (λ k. omega (arith, c.shared_slice_known-1.given k))) h

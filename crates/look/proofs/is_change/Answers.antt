@@ -4,7 +4,6 @@ use mathlib.Core.Logic.{inl, inr}
 use Rattle.look_laws.proofs.Sort.{change_first, change_other, no_change}
 use Rattle.look.proofs.is_change.Goals as goal
 
--- `look::is_change` meets its contract.
 pub returns-in-0 : goal.returns-in-0
 returns-in-0 c = change_first _ _ (omega arith) (omega arith) c.in-0.is
 

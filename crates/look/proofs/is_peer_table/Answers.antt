@@ -2,7 +2,6 @@
 use Rattle.look_laws.proofs.Sort.{table_first, no_table}
 use Rattle.look.proofs.is_peer_table.Goals as goal
 
--- `look::is_peer_table` meets its contract.
 pub returns-then-ty-eq13 : goal.returns-then-ty-eq13
 returns-then-ty-eq13 c = table_first _ _ c.if-ty-eq13.true
 

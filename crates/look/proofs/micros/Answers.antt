@@ -10,7 +10,6 @@ use borrow.Author.Rules.{rules}
 use Rattle.look.proofs.micros.Goals.{After-shared_slice_known-1}
 use Rattle.look.proofs.micros.Goals as goal
 
--- `look::micros` meets its contract.
 -- the type octets say that there are microseconds
 late : (c : After-shared_slice_known-1) → let a = c.args in finer (num_at a.d.now (a.at + 4) 2) ≡ true
 late c =

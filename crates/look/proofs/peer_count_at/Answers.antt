@@ -7,7 +7,6 @@ use Rattle.look_laws.proofs.There.{type-shown, subtype_shown, sorted, peers_insi
 use Rattle.look.proofs.peer_count_at.Goals.{After-shared_slice_known-1}
 use Rattle.look.proofs.peer_count_at.Goals as goal
 
--- `look::peer_count_at` meets its contract.
 -- the type and the subtype that the octets say
 kind : (c : After-shared_slice_known-1) → let a = c.args in (num_at a.d.now (a.at + 4) 2 ≡ 13) × (num_at a.d.now (a.at + 6) 2 ≡ 1)
 kind c =

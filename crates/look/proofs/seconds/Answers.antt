@@ -5,7 +5,6 @@ use Rattle.page_spec.specs.Layout.{finer}
 use Rattle.look_laws.proofs.There.{header-inside, type-shown, time-shown}
 use Rattle.look.proofs.seconds.Goals as goal
 
--- `look::seconds` meets its contract.
 pub stamp-requires : goal.stamp-requires
 stamp-requires c = let k = c.requires in omega (arith, header-inside k.0 _ _ k.1)
 

@@ -7,7 +7,6 @@ use Rattle.look_spec.specs.Field.{Told, Good}
 use Rattle.look.proofs.session_peer.Goals.{After-shared_slice_known-1}
 use Rattle.look.proofs.session_peer.Goals as goal
 
--- `look::session_peer` meets its contract.
 -- where the session lies, whatever table the record is good with
 there : (c : After-shared_slice_known-1) → let a = c.args in (t : Told) (g : Good t a.d.now a.at) → Speaks t a.d.now a.at g (a.at + 12) a.subtype
 there c t g =

@@ -4,7 +4,6 @@ use lib.ListN.{length}
 use Rattle.mutes_spec.specs.Slots.{SlotsHold}
 use Rattle.mutes.proofs.fill.Given as goal
 
--- `mutes::fill` meets its contract.
 abbrev pub invariant-loop-i : goal.invariant-loop-i
 invariant-loop-i l = (l.i ≤ l.held) × (l.held ≡ min (length l.mutes) 65535) × SlotsHold l.mutes l.slots l.i
 

@@ -7,7 +7,6 @@ use Rattle.cut_spec.specs.Cut.{mem}
 use Rattle.mutes.proofs.Held.{is_listed, not_held}
 use Rattle.mutes.proofs.listed.Goals as goal
 
--- `mutes::listed` meets its contract: what the slots do not have is on the list only behind what they hold.
 pub look_for-end-requires : goal.look_for-end-requires
 look_for-end-requires c = (_, c.requires)
 

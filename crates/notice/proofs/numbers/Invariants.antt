@@ -2,7 +2,6 @@ use Rattle.std.proofs.Common.{◌≡◌, ◌+◌, ◌-◌, ◌≤◌, ◌++◌, 
 use Rattle.report_spec.specs.Own.{joined, numbers}
 use Rattle.notice.proofs.numbers.Given as goal
 
--- `notice::numbers` meets its contract.
 abbrev pub invariant-loop-k : goal.invariant-loop-k
 invariant-loop-k l = (l.k ≤ 36) × (length l.all ≡ 39) × (take (3 + l.k) l.all ++ drop l.k (joined l.cells) ≡ numbers l.records l.changes l.breaks l.cells)
 

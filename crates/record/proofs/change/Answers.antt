@@ -10,7 +10,6 @@ use Rattle.record.proofs.Laws.{onward, stamped}
 use Rattle.record.proofs.change.Goals.{After-stamp_at}
 use Rattle.record.proofs.change.Goals as goal
 
--- `record::change` meets its contract: what stands behind the header and its microseconds.
 -- the answer, whatever the header was read as
 answers : (c : After-stamp_at) → let a = c.args in (x : Stamp) → c.stamp_at.result ≡ x
     → onward a.m.now (λ h at. whole (show.change h) Refused (session a.width state_change) a.m.now at) x ≡ shown_change a.m.now a.micro a.width

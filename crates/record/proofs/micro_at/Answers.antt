@@ -6,7 +6,6 @@ use Rattle.record.proofs.Laws.{small_field}
 use borrow.Author.Rules.{rules}
 use Rattle.record.proofs.micro_at.Goals as goal
 
--- `record::micro_at` meets its contract.
 pub returns-then-micro-eq0 : goal.returns-then-micro-eq0
 unfolding micro_at
 returns-then-micro-eq0 c = (search flow depth 6, search rules)

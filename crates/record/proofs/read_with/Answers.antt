@@ -5,7 +5,6 @@ use Rattle.octets_laws.proofs.Rules.{flow}
 use Rattle.record_spec.specs.One.{read_one}
 use Rattle.record.proofs.read_with.Goals as goal
 
--- `record::read_with` meets its contract.
 pub returns-then-s-eq0 : goal.returns-then-s-eq0
 unfolding read_one
 returns-then-s-eq0 c = search flow depth 6

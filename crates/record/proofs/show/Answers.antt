@@ -8,7 +8,6 @@ use borrow.Author.Rules.{rules}
 use Rattle.record.proofs.show.Goals.{After-shared_slice_known-1}
 use Rattle.record.proofs.show.Goals as goal
 
--- `record::show` meets its contract.
 -- the kind is sane, as what the match has shown it to be
 sane : (c : After-shared_slice_known-1) (y : Kind) → c.args.k ≡ y → Sane y
 sane c y e =

@@ -9,7 +9,6 @@ use Rattle.record.proofs.Laws.{onward, stamped}
 use Rattle.record.proofs.unread.Goals.{After-stamp_at}
 use Rattle.record.proofs.unread.Goals as goal
 
--- `record::unread` meets its contract: what stands behind the header and its microseconds.
 -- the answer, whatever the header was read as
 answers : (c : After-stamp_at) → let a = c.args in (x : Stamp) → c.stamp_at.result ≡ x
     → onward a.m.now (λ h at. Good h (Unread (show.rest_from a.m.now at))) x ≡ shown_unread a.m.now a.micro

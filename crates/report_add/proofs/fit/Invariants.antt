@@ -4,7 +4,6 @@ use lib.ListN.{drop}
 use Rattle.report_spec.specs.Sum.{sums, fit}
 use Rattle.report_add.proofs.fit.Given as goal
 
--- `report_add::fit` meets its contract.
 abbrev pub invariant-loop-i : goal.invariant-loop-i
 invariant-loop-i l = (l.i ≤ 39) × (fit (sums l.report l.more) ≡ fit (sums (drop l.i l.report) (drop l.i l.more)))
 

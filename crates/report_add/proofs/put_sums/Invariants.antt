@@ -3,7 +3,6 @@ use Prim.Native.Nat.{◌-◌, ◌≤◌}
 use Rattle.report_add.proofs.Sums.{laid}
 use Rattle.report_add.proofs.put_sums.Given as goal
 
--- `report_add::put_sums` meets its contract.
 abbrev pub invariant-loop-k : goal.invariant-loop-k
 invariant-loop-k l = (l.k ≤ 39) × (l.report ≡ laid l.initial.report l.more l.k)
 

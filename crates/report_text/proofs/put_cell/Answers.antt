@@ -9,7 +9,6 @@ use Rattle.report_text.proofs.Cells.{none, cell_none, cell_some}
 use Rattle.report_text.proofs.put_cell.Goals.{Start}
 use Rattle.report_text.proofs.put_cell.Goals as goal
 
--- `report_text::put_cell` meets its contract: two states of one digit and a number of 64 bits leave room for all of the line.
 -- how many digits the numbers have
 bounds : (s : Start) → let a = s.args in (length (decimal a.old) ≤ 1) × (length (decimal a.new) ≤ 1) × (length (decimal a.count) ≤ 20)
 bounds s =

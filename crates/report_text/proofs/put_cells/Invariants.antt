@@ -4,7 +4,6 @@ use lib.ListN.{length}
 use Rattle.report_text.proofs.Cells.{Celled}
 use Rattle.report_text.proofs.put_cells.Given as goal
 
--- `report_text::put_cells` meets its contract.
 abbrev pub invariant-loop-k : goal.invariant-loop-k
 invariant-loop-k l = (length l.out ≡ length l.initial.out) × Celled l.own l.initial.out l.at l.out l.put l.k
 

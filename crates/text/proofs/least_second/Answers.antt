@@ -3,7 +3,6 @@ use Rattle.text_spec.specs.Check.{least}
 use Rattle.octets_laws.proofs.Rules.{flow}
 use Rattle.text.proofs.least_second.Goals as goal
 
--- `text::least_second` meets its contract.
 pub returns-then-x-eq224 : goal.returns-then-x-eq224
 unfolding least
 returns-then-x-eq224 c = search flow

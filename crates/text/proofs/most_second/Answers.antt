@@ -3,7 +3,6 @@ use Rattle.text_spec.specs.Check.{most}
 use Rattle.octets_laws.proofs.Rules.{flow}
 use Rattle.text.proofs.most_second.Goals as goal
 
--- `text::most_second` meets its contract.
 pub returns-then-x-eq237 : goal.returns-then-x-eq237
 unfolding most
 returns-then-x-eq237 c = search flow

@@ -3,7 +3,6 @@ use native.Mathlib.Omega.{arith}
 use Rattle.text.proofs.Laws.{not_there, too_low, up_to}
 use Rattle.text.proofs.one_more.Goals as goal
 
--- `text::one_more` meets its contract.
 pub returns-then-m-at : goal.returns-then-m-at
 returns-then-m-at c = not_there _ _ _ _ (omega arith)
 

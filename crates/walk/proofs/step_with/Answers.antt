@@ -18,7 +18,6 @@ over : (c : After-read_with) → let a = c.args in (y : Shown) → c.read_with.r
 over c y e =
     let a = c.args in step_over a.longest a.t a.d.now a.at _ y _ c.read_with.ensures e refl
 
--- `walk::step_with` meets its contract.
 pub returns-then-all-at : goal.returns-then-all-at
 returns-then-all-at c = past_end _ _ c.args.d.now _ c.if-all-at.true
 

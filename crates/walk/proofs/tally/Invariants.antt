@@ -3,7 +3,6 @@ use lib.ListN.{length}
 use Rattle.walk.proofs.Tallying.{Tallying}
 use Rattle.walk.proofs.tally.Given as goal
 
--- `walk::tally` meets its contract.
 abbrev pub invariant-loop-end : goal.invariant-loop-end
 invariant-loop-end l = Tallying l.heed l.longest l.d l.at l.table l.records l.changes l.breaks l.last l.cells
 

@@ -4,7 +4,6 @@ use Rattle.write_laws.proofs.Answers.{refused_first, refused_not}
 use borrow.Author.Rules.{rules}
 use Rattle.write.proofs.verdict.Goals as goal
 
--- `write::verdict` meets its contract.
 pub returns-then-refused-gt0 : goal.returns-then-refused-gt0
 returns-then-refused-gt0 c = refused_first _ _ _ (search rules)
 

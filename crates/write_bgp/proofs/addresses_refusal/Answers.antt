@@ -3,7 +3,6 @@ use Rattle.page_spec.specs.Bgp4mp.{addresses}
 use Rattle.octets_laws.proofs.PutRules.{put_flow}
 use Rattle.write_bgp.proofs.addresses_refusal.Goals as goal
 
--- `write_bgp::addresses_refusal` meets its contract.
 pub returns-then-theirs-size : goal.returns-then-theirs-size
 unfolding addresses
 returns-then-theirs-size c = λ f vs h. search put_flow depth 12

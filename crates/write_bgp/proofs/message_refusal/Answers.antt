@@ -9,7 +9,6 @@ use Rattle.write_bgp.proofs.Judged.{judged}
 use borrow.Enum.Refused.{opened}
 use Rattle.write_bgp.proofs.message_refusal.Goals as goal
 
--- `write_bgp::message_refusal` meets its contract: the reader's number.
 -- the message stands alone
 abbrev part : Part
 part = record { at = 0; size = 0 }
