@@ -12,16 +12,16 @@
 --   Splits         form_spec/specs/Dump      whole records, each valid where it stands, whose octets are the dump
 --   Text, Spelled  text_spec/specs/Text      octets that spell scalar values in UTF-8; the octets of these values
 --   Parsed         text_spec/specs/Grammar   the octets are sequences of the forms in RFC 3629's grammar
---   is_text         text_spec/specs/Check     the check that goes octet by octet
+--   is_text        text_spec/specs/Check     the check that goes octet by octet
 --   Tells          record_spec/specs/Tells   what a reader is told of the table in force
 --   Agrees, Same   record_spec/specs/Agrees  refused with the same number and place, or shown with every field as it is in the octets
 --   again          record_spec/specs/Again   what is shown, handed to a writer
 --   Meets          record_spec/specs/Items   what going from item to item meets, against the items of a record; with `peer_at`, `peer_of` and
 --                                            the like, which say what is shown at an offset and what of an item's fields
---   answer_at       dagsumilat_spec/specs/RecordAnswers  what the call for a record of a dump answers
---   unjudged_at     dagsumilat_spec/specs/Unjudged  what the call for an entry shows
+--   answer_at      dagsumilat_spec/specs/RecordAnswers  what the call for a record of a dump answers
+--   unjudged_at    dagsumilat_spec/specs/Unjudged  what the call for an entry shows
 --   Fair           record_laws/proofs/Written  fields of the form that a writer takes
---   number_at       record_spec/specs/Reads   the number that reading gives the record that starts the octets
+--   number_at      record_spec/specs/Reads   the number that reading gives the record that starts the octets
 --   WholeTable     record_spec/specs/Named   a whole record of Type 13, Subtype 1, starts the octets; with `Named`: its message holds all of the
 --                                            view name, which is `name_in`
 --   FaultyDump     place_spec/specs/Faulty   a dump with a fault at a place; with `Faulty`, of one record's octets, and `record_end`, where it ends
@@ -29,15 +29,15 @@
 --                                            left; which field that is, `place_spec/specs/About` says; with `behind_fields`, `Lacks`,
 --                                            `NoFieldLeft`, `name_of` and `latest_of`, which say what the format lays out there
 --   Own, Placed    write_spec/specs/Only, form_spec/specs/Aligned  whose a record is; each number goes into its field, each part has its size
---   number_for      room_spec/specs/Room      the fault, then 15
+--   number_for     room_spec/specs/Room      the fault, then 15
 --   listing        listing_spec/specs/Text   the text that the program prints
---   left_of         cut_spec/specs/Answer     what is left of a dump, by `cut` of cut_spec/specs/Cut
---   report_of       report_spec/specs/Answer  a dump's own report, 39 numbers read off its records, by `own` of report_spec/specs/Own
+--   left_of        cut_spec/specs/Answer     what is left of a dump, by `cut` of cut_spec/specs/Cut
+--   report_of      report_spec/specs/Answer  a dump's own report, 39 numbers read off its records, by `own` of report_spec/specs/Own
 --   notice         report_spec/specs/Notice  what is counted of a record; `changes`, `times` and `breaks_behind` of report_spec/specs/Own count it
 --   sums, fit      report_spec/specs/Sum     numbers added one by one; each is of 64 bits
 --   Balanced       report_spec/specs/Sum     39 numbers, of which the 36 cells sum to the state changes
---   seam_of         report_spec/specs/Dumps   1 where both dumps have records of type 12 and the first's last is not followed by the second's first; else 0
---   reports_leave   report_spec/specs/Dumps   the report behind dumps, each added in turn; with `NonePasses`: no call answers 16
+--   seam_of        report_spec/specs/Dumps   1 where both dumps have records of type 12 and the first's last is not followed by the second's first; else 0
+--   reports_leave  report_spec/specs/Dumps   the report behind dumps, each added in turn; with `NonePasses`: no call answers 16
 --   together       report_spec/specs/Dumps   the report and the own reports of the dumps that are accepted, summed, however large
 use mathlib.Core.Path.{◌≡◌, refl, sym, ◌∙◌}
 use mathlib.Core.Logic.{◌↔◌, ◌⊎◌}
