@@ -247,28 +247,21 @@ fn start(arguments: &[&str]) -> Child {
     command(arguments).stdout(Stdio::null()).stderr(Stdio::null()).spawn().unwrap()
 }
 
-/// Ends the program by this signal at many moments of a cut; each time `look` sees what is there, and
-/// says whether that is the clip. Where all signals came too late, as beside much other work, again.
-fn end_at_many_moments(arguments: &[&str], signal: &str, mut look: impl FnMut() -> bool) {
+/// Ends the program by this signal at many moments of a cut; each time `look` sees what is there.
+fn end_at_many_moments(arguments: &[&str], signal: &str, mut look: impl FnMut()) {
     let now = Instant::now();
     assert!(start(arguments).wait().unwrap().success());
     let whole = now.elapsed();
     look();
     let count = if is_emulated() { 8 } else { 30 };
-    for _ in 0..5 {
-        let mut in_time = false;
-        for moment in 0..count {
-            let mut child = start(arguments);
-            thread::sleep(whole * moment * 11 / (10 * count));
-            // It may have ended already.
-            let kill = format!("kill -s {signal} {} 2>&-", child.id());
-            Command::new("sh").args(["-c", &kill]).status().unwrap();
-            child.wait().unwrap();
-            in_time |= !look();
-        }
-        if in_time {
-            return;
-        }
+    for moment in 0..count {
+        let mut child = start(arguments);
+        thread::sleep(whole * moment * 11 / (10 * count));
+        // It may have ended already.
+        let kill = format!("kill -s {signal} {} 2>&-", child.id());
+        Command::new("sh").args(["-c", &kill]).status().unwrap();
+        child.wait().unwrap();
+        look();
     }
 }
 
@@ -302,13 +295,12 @@ fn a_signal_leaves_all_or_nothing() {
             let names = names_without_drafts(&folder, is_named);
             if names == ["dump"] {
                 none += 1;
-                return false;
+                return;
             }
             assert_eq!(names, ["clip", "dump"]);
             assert!(folder.read("clip") == octets);
             fs::remove_file(&out).unwrap();
             whole += 1;
-            true
         });
         assert!(whole > 0 && none > 0, "{whole} whole, {none} without");
     }
@@ -330,12 +322,11 @@ fn a_signal_leaves_the_old_or_the_new() {
             assert_eq!(names, ["clip", "dump"]);
             if folder.read("clip") == OLD {
                 old += 1;
-                return false;
+                return;
             }
             assert!(folder.read("clip") == octets);
             fs::write(&out, OLD).unwrap();
             new += 1;
-            true
         });
         assert!(new > 0 && old > 0, "{new} new, {old} old");
     }
