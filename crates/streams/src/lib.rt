@@ -39,7 +39,7 @@ pub fn arg_count(rt: &impl Env) -> usize {
 }
 
 // Puts argument i at the start of buf and answers its length, or 0 where it is missing or longer than buf.
-pub fn arg(rt: &impl Env, i: usize, buf: &mut [u8]) -> usize
+fn arg(rt: &impl Env, i: usize, buf: &mut [u8]) -> usize
     ensures { result ≤ length buf.new }
 {
     match rt.arg(i, buf) {
@@ -49,7 +49,7 @@ pub fn arg(rt: &impl Env, i: usize, buf: &mut [u8]) -> usize
 }
 
 // Opens the file for reading. Its path has to be text.
-pub fn open_read<R: Files>(rt: &R, path: &[u8]) -> io::Result<R::File> {
+fn open_read<R: Files>(rt: &R, path: &[u8]) -> io::Result<R::File> {
     match str::from_utf8(path) {
         Ok(path) => File::open(rt, path),
         Err(_) => Err(io::Error::from(ErrorKind::InvalidFilename)),
@@ -65,7 +65,7 @@ fn words(text: &str) -> &str {
 }
 
 // Says what failed, and why.
-pub fn fail<W: Write>(alloc: Global, to: &mut W, what: &[u8], e: io::Error) -> io::Result<()> {
+fn fail<W: Write>(alloc: Global, to: &mut W, what: &[u8], e: io::Error) -> io::Result<()> {
     let text = format!(in alloc; "{e}")?;
     to.write_all(what)?;
     writeln!(to, ": {}", words(&text))
