@@ -1,4 +1,4 @@
--- The rules by which `search put-flow` follows a writer's checks through a page's format: one for each way out of a field.
+-- The rules by which `search put_flow` follows a writer's checks through a page's format: one for each way out of a field.
 use mathlib.Core.Path.{◌≡◌, refl, sym, ◌∙◌}
 use mathlib.Core.List.{List, [], ◌∷◌}
 use mathlib.Core.Bool.{Bool, true, false, cond}

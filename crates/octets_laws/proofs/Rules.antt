@@ -13,11 +13,10 @@ use Rattle.form_spec.specs.Words.{choose, num, skip, part, must, fail, checked, 
 use Rattle.form_spec.specs.Pass.{Seen, note, pass}
 pub use Rattle.form_laws.proofs.Range.{inside, below, above}
 use Rattle.octets_spec.specs.Be.{num_at}
-use Rattle.octets_spec.specs.Field.{field_at, room_at}
-use Rattle.octets_spec.specs.declared.Num.{Num}
-use Rattle.octets_spec.specs.declared.Num.TheVariants.{Value, Short}
-use Rattle.octets_spec.specs.declared.Room.{Room}
-use Rattle.octets_spec.specs.declared.Room.TheVariants.{To, None}
+use Rattle.octets_spec.specs.Field.{Value, field_at, room_at}
+use Rattle.std.specs.Prelude.{Result, Ok, Err}
+use Rattle.form_spec.specs.Refusal.{refused}
+use Rattle.form_spec.specs.declared.Fault.{Fault}
 
 -- ---- what the two readers of fields say
 
@@ -26,45 +25,56 @@ pub record Read (m : List ℕ) (i w v a : ℕ) : Type 0 where
   pub value : v ≡ num_at m i w
   pub next : a ≡ i + w
 
-pub is_read : (m : List ℕ) (i w v a : ℕ) (r : Num) → r ≡ field_at m i w → r ≡ Value v a → Read m i w v a
-unfolding field_at choose
-is_read m i w v a r p q = go (ltb (length m) (i + w)) refl (sym p ∙ q)
-  where
-    go : (b : Bool) → ltb (length m) (i + w) ≡ b → choose b Short (Value (num_at m i w) (i + w)) ≡ Value v a → Read m i w v a
-    go true t h = let z : ◌≡◌ {A = ℕ} 0 1 = cc in absurd (omega arith)
-    go false t h = record { there = ltb-false (length m) (i + w) t; value = (cc); next = (cc) }
+-- what was read, of an answer that reads
+abbrev told : Result (ℕ × ℕ) Fault → ℕ × ℕ
+told (Ok r) = r
+told (Err why) = (0, 0)
 
-pub is_short : (m : List ℕ) (i w : ℕ) (r : Num) → r ≡ field_at m i w → r ≡ Short → length m < i + w
+pub is_read : (m : List ℕ) (i w v a : ℕ) → Value v a ≡ field_at m i w → Read m i w v a
 unfolding field_at choose
-is_short m i w r p q = go (ltb (length m) (i + w)) refl (sym p ∙ q)
+is_read m i w v a p = go (ltb (length m) (i + w)) refl p
   where
-    go : (b : Bool) → ltb (length m) (i + w) ≡ b → choose b Short (Value (num_at m i w) (i + w)) ≡ Short → length m < i + w
-    go true t h = ltb-true (length m) (i + w) t
+    go : (b : Bool) → ltb (length m) (i + w) ≡ b → Value v a ≡ choose b (refused 5 i) (Value (num_at m i w) (i + w)) → Read m i w v a
+    go true t h = let z : ◌≡◌ {A = ℕ} 0 1 = cc in absurd (omega arith)
+    go false t h = record { there = ltb-false (length m) (i + w) t; value = ap (λ r. (told r).0) h; next = ap (λ r. (told r).1) h }
+
+-- a field that is not all there is refused with 5, where it starts
+pub record Short (m : List ℕ) (i w : ℕ) (why : Fault) : Type 0 where
+  pub lacks : length m < i + w
+  pub number : why.number ≡ 5
+  pub place : why.place ≡ i
+
+pub is_short : (m : List ℕ) (i w : ℕ) (why : Fault) → Err why ≡ field_at m i w → Short m i w why
+unfolding field_at choose
+is_short m i w why p = go (ltb (length m) (i + w)) refl p
+  where
+    go : (b : Bool) → ltb (length m) (i + w) ≡ b → Err why ≡ choose b (refused 5 i) (Value (num_at m i w) (i + w)) → Short m i w why
+    go true t h = record { lacks = ltb-true (length m) (i + w) t; number = (cc); place = (cc) }
     go false t h = let z : ◌≡◌ {A = ℕ} 0 1 = cc in absurd (omega arith)
 
 pub record Past (m : List ℕ) (i w a : ℕ) : Type 0 where
   pub there : i + w ≤ length m
   pub next : a ≡ i + w
 
-pub is_past : (m : List ℕ) (i w a : ℕ) (r : Room) → r ≡ room_at m i w → r ≡ To a → Past m i w a
+pub is_past : (m : List ℕ) (i w a : ℕ) → Ok a ≡ room_at m i w → Past m i w a
 unfolding room_at choose
-is_past m i w a r p q = go (ltb (length m) (i + w)) refl (sym p ∙ q)
+is_past m i w a p = go (ltb (length m) (i + w)) refl p
   where
-    go : (b : Bool) → ltb (length m) (i + w) ≡ b → choose b None (To (i + w)) ≡ To a → Past m i w a
+    go : (b : Bool) → ltb (length m) (i + w) ≡ b → Ok a ≡ choose b (refused 5 i) (Ok (i + w)) → Past m i w a
     go true t h = let z : ◌≡◌ {A = ℕ} 0 1 = cc in absurd (omega arith)
     go false t h = record { there = ltb-false (length m) (i + w) t; next = (cc) }
 
-pub no_past : (m : List ℕ) (i w : ℕ) (r : Room) → r ≡ room_at m i w → r ≡ None → length m < i + w
+pub no_past : (m : List ℕ) (i w : ℕ) (why : Fault) → Err why ≡ room_at m i w → Short m i w why
 unfolding room_at choose
-no_past m i w r p q = go (ltb (length m) (i + w)) refl (sym p ∙ q)
+no_past m i w why p = go (ltb (length m) (i + w)) refl p
   where
-    go : (b : Bool) → ltb (length m) (i + w) ≡ b → choose b None (To (i + w)) ≡ None → length m < i + w
-    go true t h = ltb-true (length m) (i + w) t
+    go : (b : Bool) → ltb (length m) (i + w) ≡ b → Err why ≡ choose b (refused 5 i) (Ok (i + w)) → Short m i w why
+    go true t h = record { lacks = ltb-true (length m) (i + w) t; number = (cc); place = (cc) }
     go false t h = let z : ◌≡◌ {A = ℕ} 0 1 = cc in absurd (omega arith)
 
 -- octets that were passed over are there: what `part` asks
-pub lies_there : (m : List ℕ) (i w a : ℕ) (r : Room) → r ≡ room_at m i w → r ≡ To a → i + w ≤ length m
-lies_there m i w a r p q = (is_past m i w a r p q).there
+pub lies_there : (m : List ℕ) (i w a : ℕ) → Ok a ≡ room_at m i w → i + w ≤ length m
+lies_there m i w a p = (is_past m i w a p).there
 
 -- ---- the rules
 
@@ -82,40 +92,40 @@ module _ {A : Type 0} (to : List Seen → ℕ → ℕ → A) (fault : ℕ → �
   long x w b i k h = rw (le-ltb _ _ h)
 
   -- a number that is there, and one that is not
-  pub num_there : (x w i v a : ℕ) (k : ℕ → Fmt) (r : Num) (y : A) → r ≡ field_at m i w → r ≡ Value v a
+  pub num_there : (x w i v a : ℕ) (k : ℕ → Fmt) (y : A) → Value v a ≡ field_at m i w
       → y ≡ pass (λ fs. to (note x i w a v fs)) fault (k v) m a → y ≡ pass to fault (num x w k) m i
   unfolding num num_at
-  num_there x w i v a k r y p q h =
-      let s = is_read m i w v a r p q in
+  num_there x w i v a k y p h =
+      let s = is_read m i w v a p in
       rw (s.value, s.next) at h ∙ long x w 0 i (λ c. k (be c)) s.there
 
-  pub num_short : (x w i : ℕ) (k : ℕ → Fmt) (r : Num) (y : A) → r ≡ field_at m i w → r ≡ Short → y ≡ fault 5 i → y ≡ pass to fault (num x w k) m i
+  pub num_short : (x w i : ℕ) (k : ℕ → Fmt) (why : Fault) (y : A) → Err why ≡ field_at m i w → y ≡ fault why.number why.place → y ≡ pass to fault (num x w k) m i
   unfolding num
-  num_short x w i k r y p q h = h ∙ short0 x w i (λ c. k (be c)) (is_short m i w r p q)
+  num_short x w i k why y p h = let s = is_short m i w why p in h ∙ rw (s.number, s.place) (short0 x w i (λ c. k (be c)) s.lacks)
 
   -- octets that are carried
-  pub skip_there : (x w i a : ℕ) (f : Fmt) (r : Room) (y : A) → r ≡ room_at m i w → r ≡ To a
+  pub skip_there : (x w i a : ℕ) (f : Fmt) (y : A) → Ok a ≡ room_at m i w
       → y ≡ pass (λ fs. to (note x i w a (be (take w (drop i m))) fs)) fault f m a → y ≡ pass to fault (skip x w f) m i
   unfolding skip
-  skip_there x w i a f r y p q h =
-      let s = is_past m i w a r p q in
+  skip_there x w i a f y p h =
+      let s = is_past m i w a p in
       rw s.next at h ∙ long x w 0 i (λ c. f) s.there
 
-  pub skip_short : (x w i : ℕ) (f : Fmt) (r : Room) (y : A) → r ≡ room_at m i w → r ≡ None → y ≡ fault 5 i → y ≡ pass to fault (skip x w f) m i
+  pub skip_short : (x w i : ℕ) (f : Fmt) (why : Fault) (y : A) → Err why ≡ room_at m i w → y ≡ fault why.number why.place → y ≡ pass to fault (skip x w f) m i
   unfolding skip
-  skip_short x w i f r y p q h = h ∙ short0 x w i (λ c. f) (no_past m i w r p q)
+  skip_short x w i f why y p h = let s = no_past m i w why p in h ∙ rw (s.number, s.place) (short0 x w i (λ c. f) s.lacks)
 
   -- octets on which the rest depends
-  pub part_there : (x w i a : ℕ) (k : List ℕ → Fmt) (r : Room) (y : A) → r ≡ room_at m i w → r ≡ To a
+  pub part_there : (x w i a : ℕ) (k : List ℕ → Fmt) (y : A) → Ok a ≡ room_at m i w
       → y ≡ pass (λ fs. to (note x i w a (be (take w (drop i m))) fs)) fault (k (take w (drop i m))) m a → y ≡ pass to fault (part x w k) m i
   unfolding part
-  part_there x w i a k r y p q h =
-      let s = is_past m i w a r p q in
+  part_there x w i a k y p h =
+      let s = is_past m i w a p in
       rw s.next at h ∙ long x w 0 i k s.there
 
-  pub part_short : (x w i : ℕ) (k : List ℕ → Fmt) (r : Room) (y : A) → r ≡ room_at m i w → r ≡ None → y ≡ fault 5 i → y ≡ pass to fault (part x w k) m i
+  pub part_short : (x w i : ℕ) (k : List ℕ → Fmt) (why : Fault) (y : A) → Err why ≡ room_at m i w → y ≡ fault why.number why.place → y ≡ pass to fault (part x w k) m i
   unfolding part
-  part_short x w i k r y p q h = h ∙ short0 x w i k (no_past m i w r p q)
+  part_short x w i k why y p h = let s = no_past m i w why p in h ∙ rw (s.number, s.place) (short0 x w i k s.lacks)
 
   -- a test that holds, and one that does not: the fault is at the number that was read last
   pub must_yes : (b : Bool) (n w i : ℕ) (f : Fmt) (y : A) → b ≡ true → y ≡ pass to fault f m i → y ≡ pass to fault (must b n w f) m i
@@ -127,25 +137,25 @@ module _ {A : Type 0} (to : List Seen → ℕ → ℕ → A) (fault : ℕ → �
   wrong zero w i f l = absurd (omega (arith, ltb-true 0 0 l))
   wrong (suc n) w i f l = refl
 
-  pub must_no : (b : Bool) (n w i d v : ℕ) (f : Fmt) (r : Num) (y : A) → b ≡ false → r ≡ Value v i → r ≡ field_at m d w → ltb 0 n ≡ true → y ≡ fault n d → y ≡ pass to fault (must b n w f) m i
+  pub must_no : (b : Bool) (n w i d v : ℕ) (f : Fmt) (y : A) → b ≡ false → Value v i ≡ field_at m d w → ltb 0 n ≡ true → y ≡ fault n d → y ≡ pass to fault (must b n w f) m i
   unfolding must
-  must_no b n w i d v f r y e q p l h =
-      let s = is_read m d w v i r p q in
+  must_no b n w i d v f y e p l h =
+      let s = is_read m d w v i p in
       let g : i - w ≡ d = omega arith in
       h ∙ rw e (rw g at (wrong n w i f l))
 
   -- the same after octets that were not read as a number
-  pub must_not : (b : Bool) (n w i d : ℕ) (f : Fmt) (r : Room) (y : A) → b ≡ false → r ≡ To i → r ≡ room_at m d w → ltb 0 n ≡ true → y ≡ fault n d → y ≡ pass to fault (must b n w f) m i
+  pub must_not : (b : Bool) (n w i d : ℕ) (f : Fmt) (y : A) → b ≡ false → Ok i ≡ room_at m d w → ltb 0 n ≡ true → y ≡ fault n d → y ≡ pass to fault (must b n w f) m i
   unfolding must
-  must_not b n w i d f r y e q p l h =
-      let s = is_past m d w i r p q in
+  must_not b n w i d f y e p l h =
+      let s = is_past m d w i p in
       let g : i - w ≡ d = omega arith in
       h ∙ rw e (rw g at (wrong n w i f l))
 
-  pub fails : (n w i d v : ℕ) (r : Num) (y : A) → r ≡ Value v i → r ≡ field_at m d w → ltb 0 n ≡ true → y ≡ fault n d → y ≡ pass to fault (fail n w) m i
+  pub fails : (n w i d v : ℕ) (y : A) → Value v i ≡ field_at m d w → ltb 0 n ≡ true → y ≡ fault n d → y ≡ pass to fault (fail n w) m i
   unfolding fail
-  fails n w i d v r y q p l h =
-      let s = is_read m d w v i r p q in
+  fails n w i d v y p l h =
+      let s = is_read m d w v i p in
       let g : i - w ≡ d = omega arith in
       h ∙ rw g at (wrong n w i (end 0) l)
 
@@ -155,21 +165,21 @@ module _ {A : Type 0} (to : List Seen → ℕ → ℕ → A) (fault : ℕ → �
 
 -- a number with its own check: right, wrong, not there
 module _ {A : Type 0} (to : List Seen → ℕ → ℕ → A) (fault : ℕ → ℕ → A) (m : List ℕ) where
-  pub right : (x w n i v a : ℕ) (ok : ℕ → Bool) (k : ℕ → Fmt) (r : Num) (y : A) → r ≡ field_at m i w → r ≡ Value v a → ok v ≡ true
+  pub right : (x w n i v a : ℕ) (ok : ℕ → Bool) (k : ℕ → Fmt) (y : A) → Value v a ≡ field_at m i w → ok v ≡ true
       → y ≡ pass (λ fs. to (note x i w a v fs)) fault (k v) m a → y ≡ pass to fault (checked x w ok n k) m i
   unfolding checked num must
-  right x w n i v a ok k r y p q e h =
-      num_there to fault m x w i v a (λ v. must (ok v) n w (k v)) r y p q (must_yes (λ fs. to (note x i w a v fs)) fault m (ok v) n w a (k v) y e h)
+  right x w n i v a ok k y p e h =
+      num_there to fault m x w i v a (λ v. must (ok v) n w (k v)) y p (must_yes (λ fs. to (note x i w a v fs)) fault m (ok v) n w a (k v) y e h)
 
-  pub not_right : (x w n i v a : ℕ) (ok : ℕ → Bool) (k : ℕ → Fmt) (r : Num) (y : A) → r ≡ field_at m i w → r ≡ Value v a → ok v ≡ false
+  pub not_right : (x w n i v a : ℕ) (ok : ℕ → Bool) (k : ℕ → Fmt) (y : A) → Value v a ≡ field_at m i w → ok v ≡ false
       → ltb 0 n ≡ true → y ≡ fault n i → y ≡ pass to fault (checked x w ok n k) m i
   unfolding checked num must
-  not_right x w n i v a ok k r y p q e l h =
-      num_there to fault m x w i v a (λ v. must (ok v) n w (k v)) r y p q (must_no (λ fs. to (note x i w a v fs)) fault m (ok v) n w a i v (k v) r y e q p l h)
+  not_right x w n i v a ok k y p e l h =
+      num_there to fault m x w i v a (λ v. must (ok v) n w (k v)) y p (must_no (λ fs. to (note x i w a v fs)) fault m (ok v) n w a i v (k v) y e p l h)
 
-  pub not_there : (x w n i : ℕ) (ok : ℕ → Bool) (k : ℕ → Fmt) (r : Num) (y : A) → r ≡ field_at m i w → r ≡ Short → y ≡ fault 5 i → y ≡ pass to fault (checked x w ok n k) m i
+  pub not_there : (x w n i : ℕ) (ok : ℕ → Bool) (k : ℕ → Fmt) (why : Fault) (y : A) → Err why ≡ field_at m i w → y ≡ fault why.number why.place → y ≡ pass to fault (checked x w ok n k) m i
   unfolding checked num must
-  not_there x w n i ok k r y p q h = num_short to fault m x w i (λ v. must (ok v) n w (k v)) r y p q h
+  not_there x w n i ok k why y p h = num_short to fault m x w i (λ v. must (ok v) n w (k v)) why y p h
 
 -- what is placed w octets back, at d
 module _ {A : Type 0} (to : List Seen → ℕ → ℕ → A) (fault : ℕ → ℕ → A) (m : List ℕ) where
@@ -179,17 +189,17 @@ module _ {A : Type 0} (to : List Seen → ℕ → ℕ → A) (fault : ℕ → �
       let g : i - w ≡ d = omega arith in
       h ∙ rw e (rw g at (wrong to fault m n w i f l))
 
-  pub area_short : (x w b i d : ℕ) (f : Fmt) (r : Room) (y : A) → r ≡ room_at m i w → r ≡ None → i ≡ d + b → y ≡ fault 5 d → y ≡ pass to fault (area x w b f) m i
+  pub area_short : (x w b i d : ℕ) (f : Fmt) (why : Fault) (y : A) → Err why ≡ room_at m i w → i ≡ d + b → y ≡ fault 5 d → y ≡ pass to fault (area x w b f) m i
   unfolding area
-  area_short x w b i d f r y p q s h =
+  area_short x w b i d f why y p s h =
       let g : i - b ≡ d = omega arith in
-      h ∙ (rw g at (short to fault m x w b i (λ c. f) (no_past m i w r p q)))
+      h ∙ (rw g at (short to fault m x w b i (λ c. f) (no_past m i w why p).lacks))
 
-  pub area_there : (x w b i a : ℕ) (f : Fmt) (r : Room) (y : A) → r ≡ room_at m i w → r ≡ To a
+  pub area_there : (x w b i a : ℕ) (f : Fmt) (y : A) → Ok a ≡ room_at m i w
       → y ≡ pass (λ fs. to (note x i w a (be (take w (drop i m))) fs)) fault f m a → y ≡ pass to fault (area x w b f) m i
   unfolding area
-  area_there x w b i a f r y p q h =
-      let s = is_past m i w a r p q in
+  area_there x w b i a f y p h =
+      let s = is_past m i w a p in
       rw s.next at h ∙ long to fault m x w b i (λ c. f) s.there
 
   pub late_end : (b i d : ℕ) (y : A) → i ≡ d + b → y ≡ to [] i d → y ≡ pass to fault (end b) m i
@@ -200,21 +210,21 @@ module _ {A : Type 0} (to : List Seen → ℕ → ℕ → A) (fault : ℕ → �
 
 -- octets with their own check, which a call answered of the part c
 module _ {A : Type 0} (to : List Seen → ℕ → ℕ → A) (fault : ℕ → ℕ → A) (m : List ℕ) where
-  pub good_part : (x w n i a : ℕ) (ok : List ℕ → Bool) (f : Fmt) (r : Room) (c : List ℕ) (t : Bool) (y : A) → r ≡ room_at m i w → r ≡ To a → c ≡ take w (drop i m) → t ≡ ok c → t ≡ true
+  pub good_part : (x w n i a : ℕ) (ok : List ℕ → Bool) (f : Fmt) (c : List ℕ) (t : Bool) (y : A) → Ok a ≡ room_at m i w → c ≡ take w (drop i m) → t ≡ ok c → t ≡ true
       → y ≡ pass (λ fs. to (note x i w a (be (take w (drop i m))) fs)) fault f m a → y ≡ pass to fault (tested x w ok n f) m i
   unfolding tested part must
-  good_part x w n i a ok f r c t y p q e g z h =
-      part_there to fault m x w i a (λ c. must (ok c) n w f) r y p q (must_yes (λ fs. to (note x i w a (be (take w (drop i m))) fs)) fault m (ok (take w (drop i m))) n w a f y (ap ok (sym e) ∙ sym g ∙ z) h)
+  good_part x w n i a ok f c t y p e g z h =
+      part_there to fault m x w i a (λ c. must (ok c) n w f) y p (must_yes (λ fs. to (note x i w a (be (take w (drop i m))) fs)) fault m (ok (take w (drop i m))) n w a f y (ap ok (sym e) ∙ sym g ∙ z) h)
 
-  pub bad_part : (x w n i a : ℕ) (ok : List ℕ → Bool) (f : Fmt) (r : Room) (c : List ℕ) (t : Bool) (y : A) → r ≡ room_at m i w → r ≡ To a → c ≡ take w (drop i m) → t ≡ ok c → t ≡ false
+  pub bad_part : (x w n i a : ℕ) (ok : List ℕ → Bool) (f : Fmt) (c : List ℕ) (t : Bool) (y : A) → Ok a ≡ room_at m i w → c ≡ take w (drop i m) → t ≡ ok c → t ≡ false
       → ltb 0 n ≡ true → y ≡ fault n i → y ≡ pass to fault (tested x w ok n f) m i
   unfolding tested part must
-  bad_part x w n i a ok f r c t y p q e g z l h =
-      part_there to fault m x w i a (λ c. must (ok c) n w f) r y p q (must_not (λ fs. to (note x i w a (be (take w (drop i m))) fs)) fault m (ok (take w (drop i m))) n w a i f r y (ap ok (sym e) ∙ sym g ∙ z) q p l h)
+  bad_part x w n i a ok f c t y p e g z l h =
+      part_there to fault m x w i a (λ c. must (ok c) n w f) y p (must_not (λ fs. to (note x i w a (be (take w (drop i m))) fs)) fault m (ok (take w (drop i m))) n w a i f y (ap ok (sym e) ∙ sym g ∙ z) p l h)
 
-  pub no_part : (x w n i : ℕ) (ok : List ℕ → Bool) (f : Fmt) (r : Room) (y : A) → r ≡ room_at m i w → r ≡ None → y ≡ fault 5 i → y ≡ pass to fault (tested x w ok n f) m i
+  pub no_part : (x w n i : ℕ) (ok : List ℕ → Bool) (f : Fmt) (why : Fault) (y : A) → Err why ≡ room_at m i w → y ≡ fault why.number why.place → y ≡ pass to fault (tested x w ok n f) m i
   unfolding tested part must
-  no_part x w n i ok f r y p q h = part_short to fault m x w i (λ c. must (ok c) n w f) r y p q h
+  no_part x w n i ok f why y p h = part_short to fault m x w i (λ c. must (ok c) n w f) why y p h
 
 -- a choice, of formats and of answers
 module _ {A : Type 0} (to : List Seen → ℕ → ℕ → A) (fault : ℕ → ℕ → A) (m : List ℕ) where

@@ -1,0 +1,6 @@
+-- A fault as what a call answers: document 01's number of it, and its place.
+use Rattle.std.specs.Prelude.{ℕ, Result, Err}
+use Rattle.form_spec.specs.declared.Fault.{Fault}
+
+abbrev pub refused : {A : Type 0} → (number place : ℕ) → Result A Fault
+refused n p = Err (record { number = n; place = p })
