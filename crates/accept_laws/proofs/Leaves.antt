@@ -21,14 +21,13 @@ use Rattle.page_spec.specs.Rib.{prefix, entry_list, rib, rib_generic}
 use Rattle.page_spec.specs.Peers.{peer, peer_table}
 use Rattle.page_spec.specs.TableDump.{table_dump}
 use Rattle.page_spec.specs.Layout.{kind12, kind13, kind16, kind}
-use Rattle.page_spec.specs.declared.Kind.{Kind}
-use Rattle.page_spec.specs.declared.Kind.TheVariants as chosen
+use Rattle.page_spec.specs.Chosen.{Chosen}
+use Rattle.page_spec.specs.Chosen as chosen
 use Rattle.record_spec.specs.Fields as show
 use Rattle.record_spec.specs.declared.Header.{Header}
 use Rattle.record_spec.specs.declared.Table as told
-use Rattle.record_spec.specs.declared.Table.TheVariants.{Absent, Holds}
-use Rattle.record_spec.specs.declared.Shown.{Shown}
-use Rattle.record_spec.specs.declared.Shown.TheVariants.{Nothing, Refused, Good}
+use Rattle.record_spec.specs.Table.{Absent, Holds}
+use Rattle.record_spec.specs.Shown.{Shown, Nothing, Good}
 use Rattle.record_spec.specs.Answer.{fault}
 use Rattle.record_spec.specs.One.{header, micro_at, behind, tabled, shown_as, whole_record}
 use Rattle.walk_spec.specs.Steps.{stepped, step_of}
@@ -41,12 +40,14 @@ use Rattle.accept_spec.specs.declared.Accepted.{Accepted}
 use Rattle.accept_spec.specs.declared.Accepted.TheVariants as answer
 use Rattle.accept_laws.proofs.Fields.{rib-runs, table_runs}
 use Rattle.accept_laws.proofs.Runs.{forward, through}
+use Rattle.form_spec.specs.Refusal.{refused}
+use Rattle.std.specs.Prelude.{Err}
 
 module _ (longest : ℕ) (m : List ℕ) (t : told.Table) where
   -- fields that are shown as a record with this header, which leaves the table as it is
   whole_leaves : (to : List Seen → Shown) (f : Fmt) (i : ℕ) (h : Header) → h.length ≡ num_at m 8 4 → ((fs : List Seen) (at : ℕ) → step_of t at (to fs) ≡ stepped at h t) → Through f m i
-      → Leaves m t (whole to Refused f m i) t
-  whole_leaves to f i h l e r = let p = through m f to Refused i r in record { head = h; long = l; step = λ at. rw p.1 (e p.0 at) }
+      → Leaves m t (whole to refused f m i) t
+  whole_leaves to f i h l e r = let p = through m f to refused i r in record { head = h; long = l; step = λ at. rw p.1 (e p.0 at) }
 
   micro_there : (micro : ℕ) → 12 + micro ≤ length m → (u : ℕ) × (micro_at m micro ≡ Value u (12 + micro))
   unfolding micro_at field_at choose
@@ -79,8 +80,8 @@ module _ (longest : ℕ) (m : List ℕ) (t : told.Table) where
   unfolding shown_as
   table_leaves l r =
       let to : List Seen → Shown = show.peer_table (header m 0) m in
-      let p = through m peer_table to Refused 12 r in
-      let good : fault (whole to Refused peer_table m 12) ≡ 0 = rw p.1 in
+      let p = through m peer_table to refused 12 r in
+      let good : fault (whole to refused peer_table m 12) ≡ 0 = rw p.1 in
       let f = facts m longest t l 13 1 chosen.PeerTable (refl, refl) good in
       let n : number_of peer_count p.0 ≡ num_at m (18 + num_at m 16 2) 2 = rw p.1 at f.2.many in
       record { head = header m 0; long = refl; step = λ at. rw (p.1, n) }
@@ -100,10 +101,10 @@ generic_leaves longest m (Holds peers) r = whole_leaves longest m (Holds peers) 
 
 module _ (longest : ℕ) (m : List ℕ) (t : told.Table) where
   -- x is what m shows if its layout is that of k
-  abbrev shows : Kind → Shown
+  abbrev shows : Chosen → Shown
   shows k = shown_as longest t m k
 
-  is_kind : (k j : Kind) → k ≡ j → Leaves m t (shows j) t → Leaves m t (shows k) t
+  is_kind : (k j : Chosen) → k ≡ j → Leaves m t (shows j) t → Leaves m t (shows k) t
   is_kind k j e l = rw e l
 
   change-kind : (micro u : ℕ) → (u ≡ 0) ⊎ (u ≡ 5) → kind16 micro u ≡ chosen.Change micro (width_of u)
@@ -132,7 +133,7 @@ module _ (longest : ℕ) (m : List ℕ) (t : told.Table) where
 
 -- a record that leaves a table has no fault
 pub no_fault : (m : List ℕ) (t u : told.Table) (x : Shown) → Leaves m t x u → fault x ≡ 0
-no_fault m t u (Refused n p) l =
+no_fault m t u (Err why) l =
     let e = l.step 0 in
     let z : ◌≡◌ {A = ℕ} 0 1 = cc in
     absurd (omega arith)
@@ -201,9 +202,9 @@ unfolding kind choose
 kind_late y u = ⊎_elim (λ (e : y ≡ 33). rw e) (λ (e : y ≡ 49). rw e)
 
 -- the record m, whose type and subtype code has read
-pub by_kind : (longest : ℕ) (m : List ℕ) (t : told.Table) (y u : ℕ) (k : Kind) (r : Accepted) → y ≡ num_at m 4 2 → u ≡ num_at m 6 2 → kind y u ≡ k → Sure m t (shown_as longest t m k) r → Sure m t (whole_record longest t m) r
+pub by_kind : (longest : ℕ) (m : List ℕ) (t : told.Table) (y u : ℕ) (k : Chosen) (r : Accepted) → y ≡ num_at m 4 2 → u ≡ num_at m 6 2 → kind y u ≡ k → Sure m t (shown_as longest t m k) r → Sure m t (whole_record longest t m) r
 unfolding whole_record
-by_kind longest m t y u k r p q e s = subst (λ (j : Kind). Sure m t (shown_as longest t m j) r) (sym e ∙ rw (p, q)) s
+by_kind longest m t y u k r p q e s = subst (λ (j : Chosen). Sure m t (shown_as longest t m j) r) (sym e ∙ rw (p, q)) s
 
 -- a number from 4 to 7 that is neither 4 nor 5
 pub six_on : (u : ℕ) → 4 ≤ u → u < 8 → ((u ≡ 0) ⊎ (u ≡ 5) → ⊥) → ((u ≡ 1) ⊎ (u ≡ 4) → ⊥) → (6 ≤ u) × (u ≤ 7)

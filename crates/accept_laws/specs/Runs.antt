@@ -2,8 +2,7 @@
 use Rattle.std.specs.Prelude.{◌≡◌, List, ℕ, ◌+◌, ◌≤◌, ◌<◌, length, take, drop}
 use Rattle.form_spec.specs.Fmt.{Fmt, end, test, field}
 use Rattle.page_spec.specs.Bgp4mp.{session}
-use Rattle.record_spec.specs.declared.Table.{Table}
-use Rattle.record_spec.specs.declared.Table.TheVariants.{Absent, Holds}
+use Rattle.record_spec.specs.Table.{Table, Absent, Holds}
 
 -- f leads through m from i to j: its fields are there, and no check fails
 unfoldable pub Runs : Fmt → List ℕ → (i j : ℕ) → Type 0

@@ -18,9 +18,8 @@ use Rattle.record_spec.specs.declared.Session.{Session}
 use Rattle.record_spec.specs.declared.Route.{Route}
 use Rattle.record_spec.specs.declared.Peers as table
 use Rattle.record_spec.specs.declared.Routes.{Routes}
-use Rattle.record_spec.specs.declared.Shown.{Shown}
-use Rattle.record_spec.specs.declared.Table.TheVariants.{Holds}
-use Rattle.record_spec.specs.declared.Shown.TheVariants.{Nothing, Refused, Good}
+use Rattle.record_spec.specs.Shown.{Shown, Nothing, Good}
+use Rattle.record_spec.specs.Table.{Holds}
 use Rattle.record_spec.specs.declared.Scope.{Scope}
 use Rattle.record_spec.specs.declared.States.{States}
 use Rattle.record_spec.specs.declared.Bgp.{Bgp}
@@ -49,6 +48,8 @@ use Rattle.cut.specs.Stands.{InStep, Stands}
 use Rattle.cut.specs.declared.InForce.{InForce}
 use Rattle.cut_spec.specs.declared.Fate.{Fate}
 use Rattle.cut_spec.specs.declared.Fate.TheVariants.{Stays, Goes, Peers, Entries}
+use Rattle.form_spec.specs.Refusal.{refused}
+use Rattle.std.specs.Prelude.{Err}
 
 -- the count that f tells is that of the table in force
 count_is : (seen : Bool) (n : ℕ) (st : St) → Tells (tell_of seen n) st → st ≡ with_peers (numbers st) → n ≡ length (numbers st)
@@ -75,7 +76,7 @@ module _ {longest : ℕ} {ms new_indexes d : List ℕ} (oc : Octets d) {at : ℕ
   not_nothing : x ≡ Nothing → ⊥
   not_nothing e = shows_some longest d oc at c.before (table_told f) st c.step.tells e
 
-  not_refused : (n p : ℕ) → x ≡ Refused n p → ⊥
+  not_refused : (n p : ℕ) → x ≡ refused n p → ⊥
   not_refused n p e = shows_good longest d oc at c.before (table_told f) st c.step.tells shown_here.reads n p e
 
   -- it ends in the dump
@@ -124,7 +125,7 @@ module _ {longest : ℕ} {ms new_indexes d : List ℕ} (oc : Octets d) {at : ℕ
 
   by_table : (y : Shown) → x ≡ y → is_table (sort_of y) ≡ true → (from n : ℕ) → from ≡ at + items_at y → n ≡ count_of y → Peered from n
   by_table Nothing e o from n a b = absurd (false≢true o)
-  by_table (Refused m p) e o from n a b = absurd (false≢true o)
+  by_table (Err why) e o from n a b = absurd (false≢true o)
   by_table (Good h (Unread p)) e o from n a b = absurd (false≢true o)
   by_table (Good h (TableDump r)) e o from n a b = absurd (false≢true o)
   by_table (Good h (PeerTable p)) e o from n a b =
@@ -141,7 +142,7 @@ module _ {longest : ℕ} {ms new_indexes d : List ℕ} (oc : Octets d) {at : ℕ
   -- any other record leaves the table in force that there was
   same_state : (y : Shown) → x ≡ y → is_table (sort_of y) ≡ false → st ≡ next (layout longest) (rec_at longest d f at) st
   same_state Nothing e n = absurd (not_nothing e)
-  same_state (Refused a b) e n = absurd (not_refused a b e)
+  same_state (Err why) e n = absurd (not_refused why.number why.place e)
   same_state (Good h (Unread p)) e n = sym (whole_unread 0 0 h p e).next
   same_state (Good h (TableDump r)) e n = sym (whole_table_dump 0 0 h r e).next
   same_state (Good h (PeerTable p)) e n = absurd (false≢true (sym n))
@@ -210,7 +211,7 @@ module _ {longest : ℕ} {ms new_indexes d : List ℕ} (oc : Octets d) {at : ℕ
     fated : (y : Shown) → x ≡ y → Is (fate_of from to ms g.lost y)
     unfolding fate_of
     fated Nothing e = absurd (not_nothing e)
-    fated (Refused a b) e = absurd (not_refused a b e)
+    fated (Err why) e = absurd (not_refused why.number why.place e)
     fated (Good h (Unread p)) e = by_whole _ _ e (whole_unread from to h p e)
     fated (Good h (TableDump r)) e = by_whole _ _ e (whole_table_dump from to h r e)
     fated (Good h (PeerTable p)) e = by_peers h p e

@@ -13,8 +13,7 @@ use Rattle.form_spec.specs.Shape.{as_of}
 use Rattle.form_spec.specs.Dump.{Splits}
 use Rattle.page_spec.specs.Peers.{peer}
 use Rattle.page_spec.specs.Layout.{layout}
-use Rattle.record_spec.specs.declared.Shown.{Shown}
-use Rattle.record_spec.specs.declared.Shown.TheVariants.{Nothing, Refused, Good}
+use Rattle.record_spec.specs.Shown.{Shown, Nothing, Good}
 use Rattle.record_spec.specs.Answer.{fault, place}
 use Rattle.cut_spec.specs.Keep.{kept}
 use Rattle.cut_spec.specs.Cut.{mem, cutting, numbers}
@@ -37,6 +36,8 @@ use Rattle.cut.specs.declared.InForce.{InForce}
 use Rattle.cut_lay.specs.declared.Far.{Far}
 use Rattle.cut_spec.specs.declared.Fate.{Fate}
 use Rattle.cut.proofs.One.{Is, shown_here, state_at_is}
+use Rattle.form_spec.specs.Refusal.{refused}
+use Rattle.std.specs.Prelude.{Err}
 
 -- ---- the table in force
 
@@ -65,9 +66,9 @@ none_lost ms d from n k e many z =
     let w : length (kept (λ m. mem m ms) ns) ≡ length ns = omega (arith, kept-length (λ m. mem m ms) ns, ltb-false k n z, l, e) in
     rw (state_at_is d from n) w
 
-good_with : (x : Shown) → ((n p : ℕ) → x ≡ Refused n p → ⊥) → fault x ≡ 0
+good_with : (x : Shown) → ((n p : ℕ) → x ≡ refused n p → ⊥) → fault x ≡ 0
 good_with Nothing h = refl
-good_with (Refused n p) h = absurd (h n p refl)
+good_with (Err why) h = absurd (h why.number why.place refl)
 good_with (Good a b) h = refl
 
 -- ---- the loop

@@ -5,7 +5,7 @@ use mathlib.Core.List.{List}
 use Prim.Native.Nat.{ℕ, ◌+◌, ◌-◌}
 use lib.Dec.{leb, ltb}
 use Rattle.octets_spec.specs.Be.{num_at}
-use Rattle.record_spec.specs.declared.Shown.{Shown}
+use Rattle.record_spec.specs.Shown.{Shown}
 use Rattle.look_spec.specs.Sort as sort
 use Rattle.look_spec.specs.Sort.{sort_of}
 use Rattle.look_spec.specs.Field.{time_of, peer_of, items_at, count_of, Counted}

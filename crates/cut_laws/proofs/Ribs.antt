@@ -19,12 +19,10 @@ use Rattle.page_spec.specs.Rib.{rib_head, generic_head, entry_rest, entry}
 use Rattle.page_spec.specs.Layout.{kind, layout_for, layout}
 use Rattle.record_spec.specs.declared.Header.{Header}
 use Rattle.record_spec.specs.declared.Routes.{Routes}
-use Rattle.record_spec.specs.declared.Shown.{Shown}
-use Rattle.record_spec.specs.declared.Shown.TheVariants.{Good}
+use Rattle.record_spec.specs.Shown.{Shown, Good}
 use Rattle.record_spec.specs.declared.Scope.{Scope}
 use Rattle.record_spec.specs.declared.Body.TheVariants.{Rib, RibGeneric}
-use Rattle.record_spec.specs.declared.Table.{Table}
-use Rattle.record_spec.specs.declared.Table.TheVariants.{Absent, Holds}
+use Rattle.record_spec.specs.Table.{Table, Absent, Holds}
 use Rattle.record_spec.specs.Answer.{place, time, within}
 use Rattle.record_spec.specs.One.{read_one}
 use Rattle.record_spec.specs.Tells.{Tells}

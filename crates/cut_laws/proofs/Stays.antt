@@ -18,8 +18,7 @@ use Rattle.page_spec.specs.Layout.{layout}
 use Rattle.record_spec.specs.declared.Header.{Header}
 use Rattle.record_spec.specs.declared.Peers.{Peers}
 use Rattle.record_spec.specs.declared.Routes.{Routes}
-use Rattle.record_spec.specs.declared.Shown.{Shown}
-use Rattle.record_spec.specs.declared.Shown.TheVariants.{Good}
+use Rattle.record_spec.specs.Shown.{Shown, Good}
 use Rattle.record_spec.specs.declared.Body.TheVariants.{PeerTable}
 use Rattle.record_spec.specs.Answer.{place, time}
 use Rattle.cut_spec.specs.Keep.{kept}

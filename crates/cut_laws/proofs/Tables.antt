@@ -15,10 +15,9 @@ use Rattle.page_spec.specs.Peers.{table_head, peer}
 use Rattle.page_spec.specs.Layout.{kind, layout_for, layout}
 use Rattle.record_spec.specs.declared.Header.{Header}
 use Rattle.record_spec.specs.declared.Peers.{Peers}
-use Rattle.record_spec.specs.declared.Shown.TheVariants.{Good}
+use Rattle.record_spec.specs.Shown.{Good}
 use Rattle.record_spec.specs.declared.Body.TheVariants.{PeerTable}
-use Rattle.record_spec.specs.declared.Table.{Table}
-use Rattle.record_spec.specs.declared.Table.TheVariants.{Holds}
+use Rattle.record_spec.specs.Table.{Table, Holds}
 use Rattle.record_spec.specs.One.{read_one}
 use Rattle.record_spec.specs.Tells.{Tells}
 use Rattle.cut_spec.specs.Keep.{kept}

@@ -24,12 +24,11 @@ use Rattle.record_spec.specs.declared.Part.{Part}
 use Rattle.record_spec.specs.declared.Header.{Header}
 use Rattle.record_spec.specs.declared.Session.{Session}
 use Rattle.record_spec.specs.declared.Route.{Route}
-use Rattle.record_spec.specs.declared.Shown.{Shown}
-use Rattle.record_spec.specs.declared.Shown.TheVariants.{Good}
+use Rattle.record_spec.specs.Shown.{Shown, Good}
 use Rattle.record_spec.specs.declared.States.{States}
 use Rattle.record_spec.specs.declared.Bgp as bgp
 use Rattle.record_spec.specs.declared.Body.TheVariants.{Unread, TableDump, Change, Message}
-use Rattle.record_spec.specs.declared.Table.{Table}
+use Rattle.record_spec.specs.Table.{Table}
 use Rattle.record_spec.specs.Answer.{place, time}
 use Rattle.record_spec.specs.One.{read_one}
 use Rattle.write_spec.specs.Times.{micro_size, micros}

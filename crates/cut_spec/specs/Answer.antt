@@ -5,7 +5,7 @@ use Rattle.page_spec.specs.Layout.{layout}
 use Rattle.walk_spec.specs.Walked.{walked}
 use Rattle.cut_spec.specs.Cut.{cutting, cut}
 use Rattle.room_spec.specs.Room.{written, holds, Answers}
-use Rattle.room_spec.specs.declared.Written.{Written}
+use Rattle.room_spec.specs.Written.{Written}
 
 -- what is left of the dump d; `longest` counts the octets of the longest BGP message
 abbrev pub left_of : (longest from to : ℕ) (ms d : List ℕ) → List ℕ

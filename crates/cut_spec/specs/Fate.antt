@@ -1,6 +1,6 @@
 -- What becomes of a record in a cut.
 use Rattle.std.specs.Prelude.{Bool, cond, not, ◌&&◌, List, ℕ, leb, ltb}
-use Rattle.record_spec.specs.declared.Shown.{Shown}
+use Rattle.record_spec.specs.Shown.{Shown}
 use Rattle.look_spec.specs.Sort as sort
 use Rattle.look_spec.specs.Sort.{Sort, sort_of}
 use Rattle.look_spec.specs.Field.{time_of, peer_of, items_at, count_of}

@@ -7,12 +7,12 @@ use Prim.Native.Nat.{ℕ}
 use lib.Dec.{eqb}
 use lib.ListN.{drop}
 use borrow.Author.Tests.{eqb-true, eq-eqb}
-use Rattle.record_spec.specs.declared.Table.{Table}
-use Rattle.record_spec.specs.declared.Shown.{Shown}
+use Rattle.record_spec.specs.Table.{Table}
+use Rattle.record_spec.specs.Shown.{Shown}
 use Rattle.walk_spec.specs.Steps.{step_at}
 use Rattle.walk_spec.specs.declared.Item.{Item}
-use Rattle.walk_spec.specs.declared.Step.{Step}
-use Rattle.walk_spec.specs.declared.Step.TheVariants as step
+use Rattle.walk_spec.specs.Step.{Step}
+use Rattle.walk_spec.specs.Step as step
 use Rattle.walk_laws.proofs.Answers.{over_record, before_end}
 use Rattle.record_spec.specs.One.{read_one}
 use Rattle.look_spec.specs.Field as field

@@ -19,13 +19,10 @@ use Rattle.form_laws.proofs.Record.{sound_rec}
 use Rattle.page_spec.specs.Peers.{peer}
 use Rattle.page_spec.specs.Rib.{entry}
 use Rattle.page_spec.specs.Layout.{layout}
-use Rattle.record_spec.specs.declared.Shown.{Shown}
-use Rattle.record_spec.specs.declared.Shown.TheVariants.{Nothing, Refused, Good}
+use Rattle.record_spec.specs.Shown.{Shown, Nothing, Good}
 use Rattle.record_spec.specs.declared.Body.TheVariants.{PeerTable, Rib, RibGeneric, Unread, TableDump, Change, Message}
-use Rattle.record_spec.specs.declared.Table.{Table}
-use Rattle.record_spec.specs.declared.Table.TheVariants.{Absent, Holds}
+use Rattle.record_spec.specs.Table.{Table, Absent, Holds, state_of}
 use Rattle.record_spec.specs.One.{read_one}
-use Rattle.record_spec.specs.Table.{state_of}
 use Rattle.record_spec.specs.Answer.{place, peer_fault, peer_end, entry_fault, entry_end}
 use Rattle.record_spec.specs.Items.{peer_at, met, peer_of, entry_of, Each, Meets}
 use Rattle.record_spec.specs.Agrees.{Agrees}
@@ -45,6 +42,7 @@ use Rattle.dagsumilat_spec.specs.declared.RecordAnswer.{RecordAnswer}
 use Rattle.dagsumilat_spec.specs.RecordAnswers.{none, table_by_count, count_of_table, by_sort, answer_of, answer_at}
 use Rattle.dagsumilat_spec.specs.Unjudged.{unjudged_at}
 use Rattle.dagsumilat_laws.proofs.Unjudged.{fields_meet}
+use Rattle.std.specs.Prelude.{Err}
 
 -- ---- by the sort of what is shown
 
@@ -69,7 +67,7 @@ module _ (longest : ℕ) (s : List ℕ) (oc : Octets s) (r : Rec) (q : List ℕ)
       → Stand s peer (count_of x) (items_at x) (place x) (items_of r.body)
   table_stands t w (Good h (PeerTable p)) e k = peers_stand longest t (state_of t) (tells-table t) s oc r q w h p e
   table_stands t w Nothing e k = elim k [ ]
-  table_stands t w (Refused _ _) e k = elim k [ ]
+  table_stands t w (Err _) e k = elim k [ ]
   table_stands t w (Good h (Unread _)) e k = elim k [ ]
   table_stands t w (Good h (TableDump _)) e k = elim k [ ]
   table_stands t w (Good h (Rib _)) e k = elim k [ ]
@@ -84,14 +82,14 @@ module _ (longest : ℕ) (s : List ℕ) (oc : Octets s) (r : Rec) (q : List ℕ)
   rib_stands (Holds n) w (Good h (Rib o)) e k = rib_stand longest n (state_of (Holds n)) (tells-table (Holds n)) s oc r q w h o e
   rib_stands (Holds n) w (Good h (RibGeneric f o)) e k = generic_stand longest n (state_of (Holds n)) (tells-table (Holds n)) s oc r q w h f o e
   rib_stands Absent w Nothing e k = elim k [ ]
-  rib_stands Absent w (Refused _ _) e k = elim k [ ]
+  rib_stands Absent w (Err _) e k = elim k [ ]
   rib_stands Absent w (Good h (Unread _)) e k = elim k [ ]
   rib_stands Absent w (Good h (TableDump _)) e k = elim k [ ]
   rib_stands Absent w (Good h (PeerTable _)) e k = elim k [ ]
   rib_stands Absent w (Good h (Change _ _)) e k = elim k [ ]
   rib_stands Absent w (Good h (Message _ _)) e k = elim k [ ]
   rib_stands (Holds n) w Nothing e k = elim k [ ]
-  rib_stands (Holds n) w (Refused _ _) e k = elim k [ ]
+  rib_stands (Holds n) w (Err _) e k = elim k [ ]
   rib_stands (Holds n) w (Good h (Unread _)) e k = elim k [ ]
   rib_stands (Holds n) w (Good h (TableDump _)) e k = elim k [ ]
   rib_stands (Holds n) w (Good h (PeerTable _)) e k = elim k [ ]
@@ -120,7 +118,7 @@ module _ (force : ℕ) (t : Table) (at : ℕ) where
 
   typed : (x : Shown) → ((told x).ty ≡ type_of x) × ((told x).subtype ≡ subtype_of x)
   typed Nothing = (refl, refl)
-  typed (Refused n p) = (refl, refl)
+  typed (Err why) = (refl, refl)
   typed (Good h (Unread _)) = (refl, refl)
   typed (Good h (TableDump _)) = (refl, refl)
   typed (Good h (PeerTable _)) = (refl, refl)
@@ -132,7 +130,7 @@ module _ (force : ℕ) (t : Table) (at : ℕ) where
   table-items : (x : Shown) → OfTable (sort_of x) → ((told x).count ≡ count_of x) × ((told x).items ≡ items_at x) × ((told x).place ≡ at + place x)
   table-items (Good h (PeerTable p)) k = (refl, refl, refl)
   table-items Nothing k = elim k [ ]
-  table-items (Refused _ _) k = elim k [ ]
+  table-items (Err _) k = elim k [ ]
   table-items (Good h (Unread _)) k = elim k [ ]
   table-items (Good h (TableDump _)) k = elim k [ ]
   table-items (Good h (Rib _)) k = elim k [ ]
@@ -144,7 +142,7 @@ module _ (force : ℕ) (t : Table) (at : ℕ) where
   rib-items (Good h (Rib o)) k = (refl, refl, refl)
   rib-items (Good h (RibGeneric f o)) k = (refl, refl, refl)
   rib-items Nothing k = elim k [ ]
-  rib-items (Refused _ _) k = elim k [ ]
+  rib-items (Err _) k = elim k [ ]
   rib-items (Good h (Unread _)) k = elim k [ ]
   rib-items (Good h (TableDump _)) k = elim k [ ]
   rib-items (Good h (PeerTable _)) k = elim k [ ]

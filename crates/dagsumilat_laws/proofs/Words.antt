@@ -4,11 +4,12 @@ use mathlib.Core.List.{List, [], ◌∷◌, ◌++◌, append_assoc}
 use native.Mathlib.Omega.{arith}
 use Prim.Native.Nat.{ℕ, suc}
 use lib.ListN.{length, set, replicate}
-use Rattle.record_spec.specs.declared.Shown.{Shown}
-use Rattle.record_spec.specs.declared.Shown.TheVariants.{Nothing, Refused, Good}
+use Rattle.record_spec.specs.Shown.{Shown, Nothing, Good}
 use Rattle.record_spec.specs.declared.Body.TheVariants.{Unread, TableDump, PeerTable, Rib, RibGeneric, Change, Message}
 use Rattle.dagsumilat_spec.specs.Answers.{words, words_from}
 use Rattle.dagsumilat_spec.specs.ReadWords.{head_words, body_words, read_words}
+use Rattle.form_spec.specs.Refusal.{refused}
+use Rattle.std.specs.Prelude.{Err}
 
 set_behind : (p : List ℕ) (x : ℕ) (a : List ℕ) (w : ℕ) → set (p ++ x ∷ a) (length p) w ≡ p ++ w ∷ a
 set_behind [] x a w = refl
@@ -28,7 +29,7 @@ laid (x ∷ a) p (w ∷ ws) e =
 
 twenty : (x : Shown) → length (head_words x ++ body_words x) ≡ 20
 twenty Nothing = refl
-twenty (Refused n p) = refl
+twenty (Err why) = refl
 twenty (Good h (Unread c)) = refl
 twenty (Good h (TableDump r)) = refl
 twenty (Good h (PeerTable p)) = refl
@@ -42,5 +43,5 @@ pub all_words : (a : List ℕ) (x : Shown) → length a ≡ 20 → read_words a 
 all_words a x e = laid a [] (head_words x ++ body_words x) (e ∙ sym (twenty x))
 
 -- a refusal: its number, its place, and zeros
-pub refused_words : (a : List ℕ) (n p : ℕ) → read_words a (Refused n p) ≡ words a (n ∷ p ∷ replicate 18 0)
+pub refused_words : (a : List ℕ) (n p : ℕ) → read_words a (refused n p) ≡ words a (n ∷ p ∷ replicate 18 0)
 refused_words a n p = refl

@@ -4,12 +4,12 @@ use mathlib.Core.List.{List, [], ◌∷◌}
 use Prim.Native.Nat.{ℕ}
 use Rattle.record_spec.specs.Answer.{fault, place, header_of}
 use Rattle.record_spec.specs.declared.Header.{Header}
-use Rattle.record_spec.specs.declared.Shown.{Shown}
-use Rattle.record_spec.specs.declared.Shown.TheVariants.{Nothing, Refused, Good}
+use Rattle.record_spec.specs.Shown.{Shown, Nothing, Good}
 use Rattle.record_spec.specs.declared.Body.TheVariants.{Unread, TableDump, PeerTable, Rib, RibGeneric, Change, Message}
 use Rattle.dagsumilat_spec.specs.Answers.{words, words_from}
 use Rattle.dagsumilat_spec.specs.ReadWords.{kind_of, head_words, body_words, read_words}
 use Rattle.dagsumilat_read.specs.Each.{each}
+use Rattle.std.specs.Prelude.{Err}
 
 -- the first words, where each is what it ought to be
 pub headed : (a : List ℕ) (x : Shown) (n p k : ℕ) (h : Header) → n ≡ fault x → p ≡ place x → k ≡ kind_of x → h ≡ header_of x
@@ -19,7 +19,7 @@ headed a x n p k h e f g i = rw (e, f, g, i)
 -- a body has twelve words
 twelve : (x : Shown) → each (body_words x) ≡ body_words x
 twelve Nothing = refl
-twelve (Refused n p) = refl
+twelve (Err why) = refl
 twelve (Good h (Unread c)) = refl
 twelve (Good h (TableDump r)) = refl
 twelve (Good h (PeerTable p)) = refl

@@ -5,7 +5,7 @@ use Rattle.record_spec.specs.declared.Peer.TheVariants as peers
 use Rattle.record_spec.specs.declared.Entry.{Entry}
 use Rattle.record_spec.specs.declared.Entry.TheVariants as entries
 use Rattle.walk_spec.specs.declared.Walked.{Walked}
-use Rattle.room_spec.specs.declared.Written.{Written}
+use Rattle.room_spec.specs.Written.{Written}
 use Rattle.room_spec.specs.Answer as written
 use Rattle.report_spec.specs.declared.Added.{Added}
 use Rattle.dagsumilat_spec.specs.declared.RecordAnswer.{RecordAnswer}

@@ -1,14 +1,13 @@
 -- A record of a dump as the calls tell it: offsets and numbers, and none of a thing is the largest number of 64 bits.
-use Rattle.std.specs.Prelude.{List, ℕ, eqb, drop}
+use Rattle.std.specs.Prelude.{List, ℕ, eqb, drop, Err}
 use Rattle.form_spec.specs.Words.{choose}
-use Rattle.record_spec.specs.declared.Table.{Table}
-use Rattle.record_spec.specs.declared.Table.TheVariants.{Absent, Holds}
-use Rattle.record_spec.specs.declared.Shown.{Shown}
+use Rattle.record_spec.specs.Table.{Table, Absent, Holds}
+use Rattle.record_spec.specs.Shown.{Shown}
 use Rattle.record_spec.specs.One.{read_one}
 use Rattle.walk_spec.specs.Steps.{step_at}
 use Rattle.walk_spec.specs.declared.Item.{Item}
-use Rattle.walk_spec.specs.declared.Step.{Step}
-use Rattle.walk_spec.specs.declared.Step.TheVariants as step
+use Rattle.walk_spec.specs.Step.{Step}
+use Rattle.walk_spec.specs.Step as step
 use Rattle.look_spec.specs.Field.{peer_of, items_at, count_of}
 use Rattle.look_spec.specs.Sort.{Sort, unread, of_peer, table, rib, sort_of}
 use Rattle.dagsumilat_spec.specs.declared.RecordAnswer.{RecordAnswer}
@@ -41,7 +40,7 @@ by_sort i t x rib = good i t none (items_at x) (count_of x)
 
 abbrev pub answer_of : (table at : ℕ) → Step → Shown → RecordAnswer
 answer_of t at step.End x = no_record 0 at t
-answer_of t at (step.Fault n p) x = no_record n p t
+answer_of t at (Err why) x = no_record why.number why.place t
 answer_of t at (step.Record i u) x = by_sort i (count_of_table u) x (sort_of x)
 
 -- the record that starts at `at`; `longest` counts the octets of the longest BGP message

@@ -3,7 +3,7 @@ use Rattle.std.specs.Prelude.{◌≡◌, List, [], ◌∷◌, ℕ, eqb}
 use Rattle.form_spec.specs.Put.{Given}
 use Rattle.form_spec.specs.Shape.{Layout, St}
 use Rattle.form_spec.specs.Words.{choose}
-use Rattle.room_spec.specs.declared.Written.{Written}
+use Rattle.room_spec.specs.Written.{Written}
 use Rattle.room_spec.specs.Answer as written
 use Rattle.write_spec.specs.declared.Time.{Time}
 use Rattle.write_spec.specs.declared.Time.TheVariants.{Seconds, Micro}

@@ -4,7 +4,7 @@ use mathlib.Core.List.{List}
 use Prim.Native.Nat.{ℕ}
 use Rattle.form_spec.specs.Put.{Given}
 use Rattle.form_spec.specs.Shape.{Layout, St}
-use Rattle.room_spec.specs.declared.Written.{Written}
+use Rattle.room_spec.specs.Written.{Written}
 use Rattle.write_spec.specs.Verdict.{Writes}
 use Rattle.dagsumilat_spec.specs.WriteWords.{write_words, Reports}
 

@@ -10,8 +10,8 @@ use Rattle.form_spec.specs.Words.{choose}
 use Rattle.form_spec.specs.Record.{Rec}
 use Rattle.record_spec.specs.One.{read_one}
 use Rattle.walk_spec.specs.Steps.{step_of}
-use Rattle.walk_spec.specs.declared.Step.{Step}
-use Rattle.walk_spec.specs.declared.Step.TheVariants as step
+use Rattle.walk_spec.specs.Step.{Step}
+use Rattle.walk_spec.specs.Step as step
 use Rattle.feed_spec.specs.declared.Last.{Last}
 use Rattle.feed_spec.specs.declared.Last.TheVariants.{Open, End, Fault}
 use Rattle.feed_spec.specs.declared.Feed.{Feed}
@@ -23,6 +23,7 @@ use Rattle.feed_spec.specs.Chopped.{Call, Between, chunk_of, called, after, Fair
 use Rattle.feed_laws.proofs.Goes.{end_again, fault_again}
 use Rattle.feed_laws.proofs.Feeding.{FeedingAs, Feeding, keeps, goes}
 use Rattle.feed_laws.proofs.Chopped.{begun, begins, keeps_all}
+use Rattle.std.specs.Prelude.{Err}
 
 -- without a last word the feed is past a record more
 abbrev On : Feed → Fed → Type 0
@@ -31,7 +32,7 @@ On f r = r.feed.last ≡ Open → f.at < r.feed.at
 module _ (f : Feed) (n : ℕ) where
   tells_on : (x : Step) → On f (tells f n x)
   tells_on step.End e = let z : ◌≡◌ {A = ℕ} 0 1 = cc in absurd (omega arith)
-  tells_on (step.Fault m p) e = let z : ◌≡◌ {A = ℕ} 0 1 = cc in absurd (omega arith)
+  tells_on (Err why) e = let z : ◌≡◌ {A = ℕ} 0 1 = cc in absurd (omega arith)
   tells_on (step.Record i u) e = omega arith
 
   answers_on : (x : Step) (r : Reach) → On f (answers f n true x r)

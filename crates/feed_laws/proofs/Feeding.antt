@@ -15,11 +15,11 @@ use Rattle.form_spec.specs.Words.{choose}
 use Rattle.form_spec.specs.Record.{Rec, write}
 use Rattle.form_spec.specs.Dump.{writes, walk_all}
 use Rattle.page_spec.specs.Layout.{layout}
-use Rattle.record_spec.specs.declared.Table.{Table}
+use Rattle.record_spec.specs.Table.{Table}
 use Rattle.record_spec.specs.One.{read_one}
 use Rattle.walk_spec.specs.declared.Item.{Item}
-use Rattle.walk_spec.specs.declared.Step.{Step}
-use Rattle.walk_spec.specs.declared.Step.TheVariants as step
+use Rattle.walk_spec.specs.Step.{Step}
+use Rattle.walk_spec.specs.Step as step
 use Rattle.walk_spec.specs.Steps.{step_of, step_at}
 use Rattle.walk_laws.proofs.Ahead.{Ahead, ends, faults}
 use Rattle.walk_laws.proofs.Goes.{goes_to}
@@ -38,6 +38,7 @@ use Rattle.feed_laws.proofs.Past.{past}
 use Rattle.feed_laws.proofs.Reach.{Reached, IsShort, not_large, reached}
 use Rattle.feed_laws.proofs.Room.{front_after}
 use Rattle.feed_laws.proofs.Goes.{not_unfit, goes_on_lem, end_again, fault_again}
+use Rattle.std.specs.Prelude.{Err}
 
 module _ (longest : ℕ) (d : List ℕ) where
   -- without a last word: the records rs are behind, and the record at hand is not all there yet
@@ -184,7 +185,7 @@ module _ (longest : ℕ) (d : List ℕ) where
           let z : step_at longest f.table d f.at ≡ step.End = sym w ∙ e in
           let l : f.at ≡ length d = (goes_to longest d oc f.at a.bound f.table a.st a.tells step.End z).here in
           quiet b c rs _ (record { walk = ends longest d oc f.at f.table rs a z ∙ rw l refl; start = a.ended }, l) refl
-      tells-kept (step.Fault m p) e w h = quiet b c rs _ (record { walk = faults longest d oc f.at f.table rs g.ahead m p (sym w ∙ e); start = g.ahead.ended }) refl
+      tells-kept (Err why) e w h = quiet b c rs _ (record { walk = faults longest d oc f.at f.table rs g.ahead why.number why.place (sym w ∙ e); start = g.ahead.ended }) refl
       tells-kept (step.Record i u) e w h =
           let z = record_sized longest f.table f.at i u s e in
           shown i u e (sym w ∙ e) (z.size ∙ sym (h z.there))

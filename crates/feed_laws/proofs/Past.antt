@@ -12,7 +12,7 @@ use Rattle.form_laws.proofs.Octets.{octets-take, octets-drop}
 use Rattle.form_laws.proofs.Record.{length-write, complete_rec}
 use Rattle.form_spec.specs.Fmt.{good}
 use Rattle.page_spec.specs.Layout.{layout}
-use Rattle.record_spec.specs.declared.Table.{Table}
+use Rattle.record_spec.specs.Table.{Table}
 use Rattle.record_spec.specs.One.{read_one}
 use Rattle.record_spec.specs.Agrees.{Same}
 use Rattle.record_spec.specs.Tells.{Tells}
@@ -20,7 +20,7 @@ use Rattle.record_laws.proofs.One.{one_record}
 use Rattle.walk_spec.specs.Steps.{step_at}
 use Rattle.walk_spec.specs.Walked.{befores}
 use Rattle.walk_spec.specs.declared.Item.{Item}
-use Rattle.walk_spec.specs.declared.Step.TheVariants.{Record}
+use Rattle.walk_spec.specs.Step.{Record}
 use Rattle.walk_laws.proofs.Ahead.{Ahead, passes}
 use Rattle.walk_laws.proofs.Goes.{goes_to}
 

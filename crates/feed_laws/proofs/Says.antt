@@ -12,8 +12,8 @@ use Rattle.form_spec.specs.Words.{choose}
 use Rattle.octets_spec.specs.Over.{over}
 use Rattle.record_spec.specs.One.{read_one}
 use Rattle.walk_spec.specs.Steps.{step_of}
-use Rattle.walk_spec.specs.declared.Step.{Step}
-use Rattle.walk_spec.specs.declared.Step.TheVariants as step
+use Rattle.walk_spec.specs.Step.{Step}
+use Rattle.walk_spec.specs.Step as step
 use Rattle.feed_spec.specs.declared.Last.TheVariants as last
 use Rattle.feed_spec.specs.declared.Feed.{Feed}
 use Rattle.feed_spec.specs.declared.Reach.{Reach}
@@ -25,6 +25,7 @@ use Rattle.feed_spec.specs.Feed.{size_of, too_large, reach, there, taken_by, sta
 use Rattle.feed_laws.proofs.Goes.{Fit, is_unfit, not_unfit, end_again, fault_again, unfit-stays, goes_on_lem, by_way}
 use Rattle.feed_laws.proofs.Reach.{Reached, reached, reach_large}
 use Rattle.feed_laws.proofs.Room.{front_after, back_after, length_after, taken_there}
+use Rattle.std.specs.Prelude.{Err}
 
 module _ (longest : ℕ) (f : Feed) (chunk : List ℕ) (ended : Bool) (room : List ℕ) where
   abbrev call : Fed
@@ -77,7 +78,7 @@ module _ (longest : ℕ) (f : Feed) (chunk : List ℕ) (ended : Bool) (room : Li
   module _ (n : ℕ) (x : Step) where
     told_taken : (y : Step) → (tells f n y).taken ≡ n
     told_taken step.End = refl
-    told_taken (step.Fault m p) = refl
+    told_taken (Err why) = refl
     told_taken (step.Record i u) = refl
 
     short_taken : (b : Bool) → (choose b (tells f n x) (takes f n last.Open More)).taken ≡ n
@@ -134,7 +135,7 @@ module _ (longest : ℕ) (f : Feed) (chunk : List ℕ) (ended : Bool) (room : Li
   module _ (n : ℕ) where
     told_not_more : (x : Step) → (tells f n x).said ≡ More → ⊥
     told_not_more step.End e = let z : ◌≡◌ {A = ℕ} 0 1 = cc in omega arith
-    told_not_more (step.Fault m p) e = let z : ◌≡◌ {A = ℕ} 0 1 = cc in omega arith
+    told_not_more (Err why) e = let z : ◌≡◌ {A = ℕ} 0 1 = cc in omega arith
     told_not_more (step.Record i u) e = let z : ◌≡◌ {A = ℕ} 0 1 = cc in omega arith
 
   more_by : (x : Step) (r : Reach) → let y = answers f (taken_by f chunk r) ended x r in y.said ≡ More → y.taken ≡ length chunk

@@ -4,17 +4,17 @@ use mathlib.Core.List.{List, [], ◌∷◌}
 use Prim.Native.Nat.{ℕ, ◌+◌, ◌≤◌, ◌<◌}
 use native.Mathlib.Omega.{arith}
 use lib.ListN.{length}
-use Rattle.record_spec.specs.declared.Table.{Table}
-use Rattle.record_spec.specs.declared.Shown.{Shown}
-use Rattle.record_spec.specs.declared.Shown.TheVariants.{Nothing, Refused, Good}
+use Rattle.record_spec.specs.Table.{Table}
+use Rattle.record_spec.specs.Shown.{Shown, Nothing, Good}
 use Rattle.record_spec.specs.One.{read_one}
 use Rattle.record_spec.specs.Answer.{fault, place}
 use Rattle.record_laws.proofs.Accepts.{no_octets}
 use Rattle.walk_spec.specs.Steps.{step_of}
 use Rattle.walk_spec.specs.declared.Item.{Item}
-use Rattle.walk_spec.specs.declared.Step.TheVariants as step
+use Rattle.walk_spec.specs.Step as step
 use Rattle.look_laws.proofs.There.{end_shown}
 use Rattle.feed_spec.specs.Feed.{size_of}
+use Rattle.std.specs.Prelude.{Err}
 
 -- the step from `at` over s finds this record
 pub record Sized (at : ℕ) (s : List ℕ) (i : Item) : Type 0 where
@@ -30,7 +30,7 @@ module _ (longest : ℕ) (t : Table) (at : ℕ) (i : Item) (u : Table) where
 
   sized : (s : List ℕ) → 0 < length s → (x : Shown) → read_one longest t s ≡ x → step_of t at x ≡ step.Record i u → Sized at s i
   sized s h Nothing r e = let z : ◌≡◌ {A = ℕ} 0 1 = cc in absurd (omega arith)
-  sized s h (Refused n p) r e = let z : ◌≡◌ {A = ℕ} 0 1 = cc in absurd (omega arith)
+  sized s h (Err why) r e = let z : ◌≡◌ {A = ℕ} 0 1 = cc in absurd (omega arith)
   sized s h (Good a b) r e =
       let g = end_shown (record { longest = longest; table = t }) s 0 (h, ap fault r) in
       let l : a.length ≡ i.length = cc in

@@ -11,15 +11,12 @@ use Rattle.form_spec.specs.Body.{Plan, just, free, many, Body, plain, loose, lis
 use Rattle.form_spec.specs.Put.{items}
 use Rattle.form_spec.specs.Gives.{tail_of}
 use Rattle.form_laws.proofs.Octets.{octets-take, octets-append}
-use Rattle.record_spec.specs.declared.Table.{Table}
-use Rattle.record_spec.specs.declared.Table.TheVariants.{Absent, Holds}
+use Rattle.record_spec.specs.Table.{Table, Absent, Holds, state_of}
 use Rattle.record_spec.specs.declared.Header.{Header}
 use Rattle.record_spec.specs.declared.Body as shown
 use Rattle.record_spec.specs.declared.Body.TheVariants as body
-use Rattle.record_spec.specs.declared.Shown.{Shown}
-use Rattle.record_spec.specs.declared.Shown.TheVariants.{Nothing, Refused, Good}
+use Rattle.record_spec.specs.Shown.{Shown, Nothing, Good}
 use Rattle.record_spec.specs.Answer.{table_behind}
-use Rattle.record_spec.specs.Table.{state_of}
 use Rattle.record_spec.specs.One.{read_one}
 use Rattle.record_spec.specs.Agrees.{Same}
 use Rattle.record_laws.proofs.Accepts.{no_octets, tells-table}
@@ -33,6 +30,7 @@ use Rattle.feed_spec.specs.declared.Said.TheVariants.{More}
 use Rattle.feed_spec.specs.declared.Fed.{Fed}
 use Rattle.feed_spec.specs.Feed.{reach, there, taken_by, takes, tells, answers, feeds}
 use Rattle.feed_laws.proofs.Goes.{by_way}
+use Rattle.std.specs.Prelude.{Err}
 
 -- below what C's words have for no table
 abbrev pub Small : Table → Type 0
@@ -89,7 +87,7 @@ module _ (longest : ℕ) (f : Feed) (chunk : List ℕ) (ended : Bool) (room : Li
 
   told : (n : ℕ) (x : Shown) → read_one longest f.table s ≡ x → Leaves (tells f n (step_of f.table f.at x))
   told n Nothing e = small
-  told n (Refused m p) e = small
+  told n (Err why) e = small
   told n (Good a b) e = behind_small longest f.table s octets small a b e
 
   by_reach : (n : ℕ) (r : Reach) → Leaves (answers f n ended (step_of f.table f.at (read_one longest f.table s)) r)

@@ -8,7 +8,7 @@ use lib.Seq.{take-append-le}
 use borrow.Author.Tests.{ne_eqb, le-ltb}
 use Rattle.form_spec.specs.Words.{choose}
 use Rattle.octets_spec.specs.Be.{num_at}
-use Rattle.record_spec.specs.declared.Table.{Table}
+use Rattle.record_spec.specs.Table.{Table}
 use Rattle.record_spec.specs.One.{whole_record, read_one}
 use Rattle.record_laws.proofs.One.{num_at_first}
 use Rattle.feed_spec.specs.Feed.{size_of}

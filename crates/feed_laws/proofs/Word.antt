@@ -10,17 +10,15 @@ use Rattle.form_spec.specs.Octets.{Octets}
 use Rattle.form_spec.specs.Words.{choose}
 use Rattle.form_spec.specs.Body.{Plan, just, free, many}
 use Rattle.form_laws.proofs.Octets.{octets-take, octets-append}
-use Rattle.record_spec.specs.declared.Table.{Table}
-use Rattle.record_spec.specs.declared.Shown.{Shown}
-use Rattle.record_spec.specs.declared.Shown.TheVariants as shown
-use Rattle.record_spec.specs.Table.{state_of}
+use Rattle.record_spec.specs.Table.{Table, state_of}
+use Rattle.record_spec.specs.Shown.{Shown}
+use Rattle.record_spec.specs.Shown as shown
 use Rattle.record_spec.specs.One.{read_one}
 use Rattle.record_laws.proofs.Accepts.{tells-table}
 use Rattle.place_spec.specs.About.{about}
 use Rattle.place_spec.specs.Faulty.{FailedRecord, laid_out, Faulty}
 use Rattle.place_laws.proofs.Record.{faulty_record}
 use Rattle.walk_spec.specs.Steps.{step_of, step_at}
-use Rattle.walk_spec.specs.declared.Step.TheVariants as step
 use Rattle.walk_laws.proofs.Goes.{goes_to}
 use Rattle.feed_spec.specs.declared.Last.TheVariants as last
 use Rattle.feed_spec.specs.declared.Feed.{Feed}
@@ -31,6 +29,8 @@ use Rattle.feed_spec.specs.declared.Fed.{Fed}
 use Rattle.feed_spec.specs.Feed.{size_of, reach, there, taken_by, tells, answers, feeds}
 use Rattle.feed_laws.proofs.Goes.{by_room}
 use Rattle.feed_laws.proofs.Reach.{Reached, reached}
+use Rattle.form_spec.specs.Refusal.{refused}
+use Rattle.std.specs.Prelude.{Err}
 
 -- these two
 abbrev pub OneOrTwo : ℕ → Type 0
@@ -51,10 +51,10 @@ about_none n x w h =
     (λ (e : n ≡ 2). let k = rw e at h in let z : ◌≡◌ {A = ℕ} 0 1 = cc in omega arith) w
 
 module _ (longest : ℕ) (t : Table) (s : List ℕ) (oc : Octets s) (whole : size_of s ≤ length s) where
-  pub not_one_or_two : (n p : ℕ) → read_one longest t s ≡ shown.Refused n p → OneOrTwo n → ⊥
+  pub not_one_or_two : (n p : ℕ) → read_one longest t s ≡ refused n p → OneOrTwo n → ⊥
   unfolding step_at
   not_one_or_two n p e w =
-      let a = goes_to longest s oc 0 (omega arith) t (state_of t) (tells-table t) (step.Fault n (0 + p)) (ap (step_of t 0) e) in
+      let a = goes_to longest s oc 0 (omega arith) t (state_of t) (tells-table t) (refused n (0 + p)) (ap (step_of t 0) e) in
       let f : Faulty longest (state_of t) s n a.off = faulty_record longest (state_of t) s oc (omega arith) n a.off a.read in
       ⊎_elim (λ h. omega (arith, h.3)) (⊎_elim (λ h. omega (arith, h.3)) (λ h. let x = field_fails (laid_out longest (state_of t) s) _ n a.off h.1 in about_none n x.0 w x.1)) f
 
@@ -77,7 +77,7 @@ module _ (longest : ℕ) (f : Feed) (chunk room : List ℕ) (oc : Octets chunk) 
 
   told : size_of s ≤ length s → (k : ℕ) (x : Shown) → read_one longest f.table s ≡ x → Silent (tells f k (step_of f.table f.at x))
   told h k shown.Nothing e q = let z : ◌≡◌ {A = ℕ} 0 1 = cc in omega arith
-  told h k (shown.Refused m o) e q = let z : m ≡ n = cc in not_one_or_two longest f.table s octets h n o (e ∙ rw z refl) two
+  told h k (Err why) e q = let z : why.number ≡ n = cc in not_one_or_two longest f.table s octets h n why.place (e ∙ rw z refl) two
   told h k (shown.Good a b) e q = let z : ◌≡◌ {A = ℕ} 0 1 = cc in omega arith
 
   by_reach : (r : Reach) → Reached f.at room s r → Silent (answers f (taken_by f chunk r) false (step_of f.table f.at (read_one longest f.table s)) r)

@@ -1,7 +1,7 @@
 -- A dump handed over call by call, however it is chopped: what is shown, and what is asked of who hands it over (document 02, change request 5).
 use Rattle.std.specs.Prelude.{◌≡◌, Bool, true, List, [], ◌∷◌, ◌++◌, ℕ, ◌+◌, ◌^◌, ◌≤◌, ◌<◌, length, take, drop}
 use Rattle.form_spec.specs.Record.{Rec, write}
-use Rattle.record_spec.specs.declared.Table.{Table}
+use Rattle.record_spec.specs.Table.{Table}
 use Rattle.record_spec.specs.One.{read_one}
 use Rattle.record_spec.specs.Agrees.{Same}
 use Rattle.feed_spec.specs.declared.Feed.{Feed}

@@ -1,14 +1,13 @@
 -- One call of a feed: what it says of a chunk, how many octets of it are taken, and what the feed and the room are afterwards (document 02,
 -- change request 5).
-use Rattle.std.specs.Prelude.{Bool, ◌||◌, List, ◌++◌, ℕ, ◌+◌, ◌-◌, ◌^◌, leb, ltb, length, take}
+use Rattle.std.specs.Prelude.{Bool, ◌||◌, List, ◌++◌, ℕ, ◌+◌, ◌-◌, ◌^◌, leb, ltb, length, take, Err}
 use Rattle.form_spec.specs.Words.{◌$◌, choose}
 use Rattle.octets_spec.specs.Be.{num_at}
 use Rattle.octets_spec.specs.Over.{over}
-use Rattle.record_spec.specs.declared.Table.{Table}
-use Rattle.record_spec.specs.declared.Table.TheVariants.{Absent}
+use Rattle.record_spec.specs.Table.{Table, Absent}
 use Rattle.record_spec.specs.One.{read_one}
-use Rattle.walk_spec.specs.declared.Step.{Step}
-use Rattle.walk_spec.specs.declared.Step.TheVariants as step
+use Rattle.walk_spec.specs.Step.{Step}
+use Rattle.walk_spec.specs.Step as step
 use Rattle.walk_spec.specs.Steps.{step_of}
 use Rattle.feed_spec.specs.declared.Last.{Last}
 use Rattle.feed_spec.specs.declared.Last.TheVariants as last
@@ -67,7 +66,7 @@ shows f n size u = record { said = Record size; taken = n; feed = record { at = 
 -- what reading says of the record at hand
 abbrev pub tells : Feed → (n : ℕ) → Step → Fed
 tells f n step.End = takes f n last.End End
-tells f n (step.Fault m p) = takes f n (last.Fault m p) (Fault m p)
+tells f n (Err why) = takes f n (last.Fault why.number why.place) (Fault why.number why.place)
 tells f n (step.Record i u) = shows f n (12 + i.length) u
 
 -- octets that are missing are waited for until the sender's word

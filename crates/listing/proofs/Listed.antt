@@ -10,16 +10,16 @@ use Rattle.form_spec.specs.Record.{Rec, size, next}
 use Rattle.form_spec.specs.Dump.{Walk, stop, before, walk_from, walk_all}
 use Rattle.page_spec.specs.Layout.{layout}
 use Rattle.octets_laws.proofs.Over.{over_none}
-use Rattle.record_spec.specs.declared.Table.{Table}
-use Rattle.record_spec.specs.declared.Table.TheVariants.{Absent}
+use Rattle.record_spec.specs.Table.{Table, Absent}
 use Rattle.record_spec.specs.Tells.{Tells}
 use Rattle.walk_spec.specs.Steps.{step_at}
 use Rattle.walk_spec.specs.declared.Item.{Item}
-use Rattle.walk_spec.specs.declared.Step.TheVariants.{End, Fault, Record}
+use Rattle.walk_spec.specs.Step.{End, Record}
 use Rattle.walk_laws.proofs.Goes.{Past, goes_to}
 use Rattle.listing_spec.specs.Text.{line, fault_line, record_line, lines, walk_text}
 use Rattle.listing_spec.specs.Lays.{Lays}
 use Rattle.listing_laws.proofs.Lays.{both}
+use Rattle.form_spec.specs.Refusal.{refused}
 
 -- ---- the text of a walk, a step at a time
 
@@ -71,9 +71,9 @@ module _ (longest : ℕ) (d : List ℕ) (oc : Octets d) (out₀ out : List ℕ) 
       → Lays out₀ 0 (walk_text longest 0 (walk_all (layout longest) d)) r l
   done_end r l e = stops 0 at r l (goes_to longest d oc at a.bound t a.st a.tells End e).walk
 
-  pub done_fault : (n p r : ℕ) (l : List ℕ) → step_at longest t d at ≡ Fault n p → Lays out put (fault_line n p) r l → r ≤ length out₀
+  pub done_fault : (n p r : ℕ) (l : List ℕ) → step_at longest t d at ≡ refused n p → Lays out put (fault_line n p) r l → r ≤ length out₀
       → Lays out₀ 0 (walk_text longest 0 (walk_all (layout longest) d)) r l
-  done_fault n p r l e = stops n p r l (goes_to longest d oc at a.bound t a.st a.tells (Fault n p) e).walk
+  done_fault n p r l e = stops n p r l (goes_to longest d oc at a.bound t a.st a.tells (refused n p) e).walk
 
   module _ (i : Item) (u : Table) (e : step_at longest t d at ≡ Record i u) where
     g : Past longest d at a.st i u

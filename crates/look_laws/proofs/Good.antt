@@ -20,12 +20,11 @@ use Rattle.page_spec.specs.Bgp4mp.{addresses, session, state, state_change}
 use Rattle.page_spec.specs.TableDump.{table_dump, table_dump_rest}
 use Rattle.page_spec.specs.Rib.{prefix, entry_list, rib, rib_generic}
 use Rattle.page_spec.specs.Peers.{peer_list, peer_table}
-use Rattle.page_spec.specs.declared.Kind.{Kind}
-use Rattle.page_spec.specs.declared.Kind.TheVariants as chosen
+use Rattle.page_spec.specs.Chosen.{Chosen}
+use Rattle.page_spec.specs.Chosen as chosen
 use Rattle.record_spec.specs.declared.Table as told
-use Rattle.record_spec.specs.declared.Table.TheVariants.{Absent, Holds}
-use Rattle.record_spec.specs.declared.Shown.{Shown}
-use Rattle.record_spec.specs.declared.Shown.TheVariants.{Refused}
+use Rattle.record_spec.specs.Table.{Absent, Holds}
+use Rattle.record_spec.specs.Shown.{Shown}
 use Rattle.record_spec.specs.Fields as show
 use Rattle.record_spec.specs.Answer.{fault, place, header_of}
 use Rattle.record_spec.specs.One.{header, micro_at, behind, tabled, shown_as}
@@ -33,6 +32,8 @@ use Rattle.page_laws.proofs.Choice.{Says}
 use Rattle.look_spec.specs.Sort as sort
 use Rattle.look_spec.specs.Field.{peer_of, sequence_of, states_of, items_at, count_of}
 use Rattle.look_laws.proofs.Fields.{by_choose, field_then, test_then, every}
+use Rattle.form_spec.specs.Refusal.{refused as with_fault}
+use Rattle.std.specs.Prelude.{Err}
 
 -- x, if it is good, has P
 abbrev pub Sees : (Shown → Type 0) → Shown → Type 0
@@ -45,50 +46,50 @@ IsState s = (1 ≤ s) × (s ≤ 6)
 -- ---- the fields of a format, up to those that matter
 
 module _ (m : List ℕ) (P : Shown → Type 0) where
-  refused : (n p : ℕ) → Sees P (Refused (suc n) p)
+  refused : (n p : ℕ) → Sees P (with_fault (suc n) p)
   refused n p e = absurd (omega arith)
 
   -- the fields that are left do not matter
-  rest : (f : Fmt) (to : List Seen → Shown) (i : ℕ) → ((fs : List Seen) → P (to fs)) → Sees P (whole to Refused f m i)
-  rest f to i h = every (Sees P) Refused refused m f _ i (λ fs a p. by_choose (Sees P) (ltb a (length m)) _ _ (refused 5 p) (λ e. h fs))
+  rest : (f : Fmt) (to : List Seen → Shown) (i : ℕ) → ((fs : List Seen) → P (to fs)) → Sees P (whole to with_fault f m i)
+  rest f to i h = every (Sees P) with_fault refused m f _ i (λ fs a p. by_choose (Sees P) (ltb a (length m)) _ _ (refused 5 p) (λ e. h fs))
 
   -- a field that is there, and a check that is passed
   over : (to : List Seen → Shown) (x l c : ℕ) (k : List ℕ → Fmt) (i : ℕ)
-      → (i + l ≤ length m → Sees P (whole (λ fs. to (note x i l (i + l) (be (take l (drop i m))) fs)) Refused (k (take l (drop i m))) m (i + l))) → Sees P (whole to Refused (field x l c k) m i)
-  over to x l c k i h = field_then (Sees P) Refused refused m _ x l c k i h
+      → (i + l ≤ length m → Sees P (whole (λ fs. to (note x i l (i + l) (be (take l (drop i m))) fs)) with_fault (k (take l (drop i m))) m (i + l))) → Sees P (whole to with_fault (field x l c k) m i)
+  over to x l c k i h = field_then (Sees P) with_fault refused m _ x l c k i h
 
-  past : (to : List Seen → Shown) (n c : ℕ) (f : Fmt) (i : ℕ) → Sees P (whole to Refused f m i) → Sees P (whole to Refused (test n c f) m i)
-  past to n c f i h = test_then (Sees P) Refused refused m _ n c f i h
+  past : (to : List Seen → Shown) (n c : ℕ) (f : Fmt) (i : ℕ) → Sees P (whole to with_fault f m i) → Sees P (whole to with_fault (test n c f) m i)
+  past to n c f i h = test_then (Sees P) with_fault refused m _ n c f i h
 
   -- a check that says something
-  judged : (to : List Seen → Shown) (ok : Bool) (n c : ℕ) (f : Fmt) (i : ℕ) → (ok ≡ true → Sees P (whole to Refused f m i)) → Sees P (whole to Refused (test (cond ok 0 (suc n)) c f) m i)
+  judged : (to : List Seen → Shown) (ok : Bool) (n c : ℕ) (f : Fmt) (i : ℕ) → (ok ≡ true → Sees P (whole to with_fault f m i)) → Sees P (whole to with_fault (test (cond ok 0 (suc n)) c f) m i)
   unfolding pass
   judged to true n c f i h = h refl
   judged to false n c f i h = refused n _
 
   -- the last field: nothing is left over
-  ended : (to : List Seen → Shown) (b i : ℕ) → (length m ≤ i → P (to [])) → Sees P (whole to Refused (end b) m i)
+  ended : (to : List Seen → Shown) (b i : ℕ) → (length m ≤ i → P (to [])) → Sees P (whole to with_fault (end b) m i)
   unfolding pass choose
   ended to b i h = go (ltb i (length m)) refl
     where
-      go : (t : Bool) → ltb i (length m) ≡ t → Sees P (choose t (Refused 6 (i - b)) (to []))
+      go : (t : Bool) → ltb i (length m) ≡ t → Sees P (choose t (with_fault 6 (i - b)) (to []))
       go true e = refused 5 _
       go false e = λ z. h (ltb-false i (length m) e)
 
   -- ---- types 16 and 17
 
   addresses_then : (to : List Seen → Shown) (n : ℕ) (f : Fmt) (i : ℕ)
-      → (i + n + n ≤ length m → Sees P (whole (λ fs. to (note peer_address i n (i + n) (num_at m i n) (note local_address (i + n) n (i + n + n) (num_at m (i + n) n) fs))) Refused f m (i + n + n)))
-      → Sees P (whole to Refused (addresses n f) m i)
+      → (i + n + n ≤ length m → Sees P (whole (λ fs. to (note peer_address i n (i + n) (num_at m i n) (note local_address (i + n) n (i + n + n) (num_at m (i + n) n) fs))) with_fault f m (i + n + n)))
+      → Sees P (whole to with_fault (addresses n f) m i)
   unfolding addresses skip num_at
   addresses_then to n f i h = over to peer_address n 0 _ i λ x1. over _ local_address n 0 _ (i + n) h
 
   -- whatever the family says of their size
-  sized_then : (to : List Seen → Shown) (fam : ℕ) (f : Fmt) (i : ℕ) → ((n : ℕ) → Sees P (whole to Refused (addresses n f) m i))
-      → Sees P (whole to Refused (choose (eqb fam 1) (addresses 4 f) (choose (eqb fam 2) (addresses 16 f) (fail 7 2))) m i)
+  sized_then : (to : List Seen → Shown) (fam : ℕ) (f : Fmt) (i : ℕ) → ((n : ℕ) → Sees P (whole to with_fault (addresses n f) m i))
+      → Sees P (whole to with_fault (choose (eqb fam 1) (addresses 4 f) (choose (eqb fam 2) (addresses 16 f) (fail 7 2))) m i)
   unfolding pass fail
   sized_then to fam f i h =
-      let Z : Fmt → Type 0 = λ g. Sees P (whole to Refused g m i) in
+      let Z : Fmt → Type 0 = λ g. Sees P (whole to with_fault g m i) in
       by_choose Z (eqb fam 1) _ _ (h 4) (by_choose Z (eqb fam 2) _ _ (h 16) (refused 6 _))
 
   -- the fields of a session whose addresses have n octets each
@@ -100,7 +101,7 @@ module _ (m : List ℕ) (P : Shown → Type 0) where
       (note local_address (i + w + w + 2 + 2 + n) n (i + w + w + 2 + 2 + n + n) (num_at m (i + w + w + 2 + 2 + n) n) fs)))))
 
   session_then : (to : List Seen → Shown) (w : ℕ) (f : Fmt) (i : ℕ)
-      → ((n : ℕ) → let at = i + w + w + 2 + 2 + n + n in at ≤ length m → Sees P (whole (λ fs. to (noted w n i fs)) Refused f m at)) → Sees P (whole to Refused (session w f) m i)
+      → ((n : ℕ) → let at = i + w + w + 2 + 2 + n + n in at ≤ length m → Sees P (whole (λ fs. to (noted w n i fs)) with_fault f m at)) → Sees P (whole to with_fault (session w f) m i)
   unfolding session num num_at
   session_then to w f i h =
       over to peer_as w 0 _ i λ x1. over _ local_as w 0 _ (i + w) λ x2. over _ interface 2 0 _ (i + w + w) λ x3.
@@ -108,10 +109,10 @@ module _ (m : List ℕ) (P : Shown → Type 0) where
 
   -- the peer's AS is the first field
   session_seen : (to : List Seen → Shown) (w : ℕ) (f : Fmt) (i : ℕ) → (i + w + w + 2 + 2 ≤ length m → (fs : List Seen) → number_of peer_as fs ≡ num_at m i w → P (to fs))
-      → Sees P (whole to Refused (session w f) m i)
+      → Sees P (whole to with_fault (session w f) m i)
   session_seen to w f i h = session_then to w f i λ n x. rest f _ _ λ fs. h (omega arith) (noted w n i fs) refl
 
-  state_then : (to : List Seen → Shown) (x : ℕ) (f : Fmt) (i : ℕ) → (i + 2 ≤ length m → IsState (num_at m i 2) → Sees P (whole (λ fs. to (note x i 2 (i + 2) (num_at m i 2) fs)) Refused f m (i + 2))) → Sees P (whole to Refused (state x f) m i)
+  state_then : (to : List Seen → Shown) (x : ℕ) (f : Fmt) (i : ℕ) → (i + 2 ≤ length m → IsState (num_at m i 2) → Sees P (whole (λ fs. to (note x i 2 (i + 2) (num_at m i 2) fs)) with_fault f m (i + 2))) → Sees P (whole to with_fault (state x f) m i)
   unfolding state checked num_at
   state_then to x f i h = over to x 2 0 _ i λ x1. judged _ (in_range 1 (num_at m i 2) 6) 8 2 f (i + 2) λ e. h x1 (bounds 1 (num_at m i 2) 6 e)
 
@@ -119,7 +120,7 @@ module _ (m : List ℕ) (P : Shown → Type 0) where
   change_seen : (to : List Seen → Shown) (w i : ℕ)
       → ((n : ℕ) → let at = i + w + w + 2 + 2 + n + n in length m ≡ at + 4 → IsState (num_at m at 2) → IsState (num_at m (at + 2) 2)
       → (fs : List Seen) → number_of peer_as fs ≡ num_at m i w → number_of old_state fs ≡ num_at m at 2 → number_of new_state fs ≡ num_at m (at + 2) 2 → P (to fs))
-      → Sees P (whole to Refused (session w state_change) m i)
+      → Sees P (whole to with_fault (session w state_change) m i)
   unfolding state_change
   change_seen to w i h =
       session_then to w state_change i λ n x1.
@@ -128,7 +129,7 @@ module _ (m : List ℕ) (P : Shown → Type 0) where
 
   table_dump_seen : (to : List Seen → Shown) (size i : ℕ)
       → let at = i + 2 + 2 + size + 1 + 1 + 4 + size in
-      (at + 2 ≤ length m → (fs : List Seen) → number_of sequence fs ≡ num_at m (i + 2) 2 → number_of peer_as fs ≡ num_at m at 2 → P (to fs)) → Sees P (whole to Refused (table_dump size) m i)
+      (at + 2 ≤ length m → (fs : List Seen) → number_of sequence fs ≡ num_at m (i + 2) 2 → number_of peer_as fs ≡ num_at m at 2 → P (to fs)) → Sees P (whole to with_fault (table_dump size) m i)
   unfolding table_dump table_dump_rest num skip checked num_at
   table_dump_seen to size i h =
       let at : ℕ = i + 2 + 2 + size + 1 + 1 + 4 + size in
@@ -140,7 +141,7 @@ module _ (m : List ℕ) (P : Shown → Type 0) where
   -- a prefix and the entries behind it
   prefix_seen : (to : List Seen → Shown) (most peers i : ℕ)
       → let at = i + 1 + (num_at m i 1 + 7) / 8 in
-      (at + 2 ≤ length m → (fs : List Seen) → after_of entry_count fs ≡ at + 2 → number_of entry_count fs ≡ num_at m at 2 → P (to fs)) → Sees P (whole to Refused (prefix most (entry_list peers)) m i)
+      (at + 2 ≤ length m → (fs : List Seen) → after_of entry_count fs ≡ at + 2 → number_of entry_count fs ≡ num_at m at 2 → P (to fs)) → Sees P (whole to with_fault (prefix most (entry_list peers)) m i)
   unfolding prefix entry_list num skip checked num_at
   prefix_seen to most peers i h =
       let at : ℕ = i + 1 + (num_at m i 1 + 7) / 8 in
@@ -149,7 +150,7 @@ module _ (m : List ℕ) (P : Shown → Type 0) where
 
   peers_seen : (to : List Seen → Shown) (i : ℕ)
       → let at = i + 4 + 2 + num_at m (i + 4) 2 in
-      (at + 2 ≤ length m → (fs : List Seen) → after_of peer_count fs ≡ at + 2 → number_of peer_count fs ≡ num_at m at 2 → P (to fs)) → Sees P (whole to Refused peer_table m i)
+      (at + 2 ≤ length m → (fs : List Seen) → after_of peer_count fs ≡ at + 2 → number_of peer_count fs ≡ num_at m at 2 → P (to fs)) → Sees P (whole to with_fault peer_table m i)
   unfolding peer_table peer_list num tested num_at
   peers_seen to i h =
       let at : ℕ = i + 4 + 2 + num_at m (i + 4) 2 in
@@ -216,8 +217,8 @@ module _ (m : List ℕ) where
     pub last : c + 4 ≡ length m
 
   -- what the octets of a record of a kind have of what is shown
-  abbrev pub Facts : Kind → Shown → Type 0
-  Facts (chosen.Refused n p) x = ⊥
+  abbrev pub Facts : Chosen → Shown → Type 0
+  Facts (Err why) x = ⊥
   Facts (chosen.Unread micro) x = Heads micro x × Marked sort.unread false false x
   Facts (chosen.TableDump size) x = Heads 0 x × Marked sort.of_peer true false x × Routed size x
   Facts chosen.PeerTable x = Heads 0 x × Marked sort.table false false x × Counts (18 + num_at m 16 2) x
@@ -232,14 +233,14 @@ module _ (m : List ℕ) where
     headed x e f = record { head = e; ends = f; long = omega arith }
 
     generic : (peers : ℕ) (c : Bool) (to : List Seen → Shown) → ((fs : List Seen) → after_of entry_count fs ≡ behind_prefix 19 + 2 → number_of entry_count fs ≡ num_at m (behind_prefix 19) 2 → behind_prefix 19 + 2 ≤ length m → Facts chosen.RibGeneric (to fs))
-        → Sees (Facts chosen.RibGeneric) (whole to Refused (choose c (prefix 32 (entry_list peers)) (prefix 128 (entry_list peers))) m 19)
+        → Sees (Facts chosen.RibGeneric) (whole to with_fault (choose c (prefix 32 (entry_list peers)) (prefix 128 (entry_list peers))) m 19)
     unfolding choose
     generic peers true to h = prefix_seen m (Facts chosen.RibGeneric) to 32 peers 19 λ x fs e f. h fs e f x
     generic peers false to h = prefix_seen m (Facts chosen.RibGeneric) to 128 peers 19 λ x fs e f. h fs e f x
 
-    pub facts : (type sub : ℕ) (k : Kind) → Says type sub k → Sees (Facts k) (shown_as longest t m k)
+    pub facts : (type sub : ℕ) (k : Chosen) → Says type sub k → Sees (Facts k) (shown_as longest t m k)
     unfolding shown_as micro_in rib rib_generic num checked
-    facts y u (chosen.Refused n p) s = λ e. absurd (omega (arith, s.0))
+    facts y u (Err why) s = λ e. absurd (omega (arith, s.0))
     facts y u (chosen.Unread micro) s = behind_seen m (Facts (chosen.Unread micro)) long micro _ λ x e. (record { head = refl; ends = refl; long = x }, (refl, refl, refl))
     facts y u (chosen.TableDump size) s =
         let z : 12 + 2 + 2 + size + 1 + 1 + 4 + size ≡ 22 + 2 * size = omega arith in

@@ -10,8 +10,8 @@ use lib.Dec.{eqb}
 use borrow.Author.Tests.{eqb-true, eq-eqb, ne_eqb}
 use Rattle.form_spec.specs.Words.{choose, in_range}
 use Rattle.page_spec.specs.Layout.{kind12, kind13, kind16, kind, finer}
-use Rattle.page_spec.specs.declared.Kind.{Kind}
-use Rattle.record_spec.specs.declared.Shown.{Shown}
+use Rattle.page_spec.specs.Chosen.{Chosen}
+use Rattle.record_spec.specs.Shown.{Shown}
 use Rattle.page_laws.proofs.Choice.{by_test, either}
 use Rattle.look_spec.specs.Sort.{Sort, unread, of_peer, table, rib, sort_by, is_table}
 use Rattle.look_spec.specs.Field.{change_by}
@@ -22,7 +22,7 @@ module _ (m : List ℕ) (x : Shown) where
   unfolding kind12
   marks12 u = by_test P (eqb u 1) _ _ (λ e f. f.1) (by_test P (eqb u 2) _ _ (λ e f. f.1) (λ f. absurd f))
     where
-      P : Kind → Type 0
+      P : Chosen → Type 0
       P k = Facts m k x → Marked of_peer true false x
 
   marks16 : (micro u : ℕ) → Facts m (kind16 micro u) x → Marked of_peer false (eqb u 0 || eqb u 5) x
@@ -33,7 +33,7 @@ module _ (m : List ℕ) (x : Shown) where
       (by_test P (eqb u 1 || eqb u 6) _ _ (λ e f. ⊎_elim (λ z. is 1 z f.1) (λ z. is 6 z f.1) (either (eqb u 1) (eqb u 6) e))
       (by_test P (eqb u 4 || eqb u 7) _ _ (λ e f. ⊎_elim (λ z. is 4 z f.1) (λ z. is 7 z f.1) (either (eqb u 4) (eqb u 7) e)) (λ f. absurd f))))
     where
-      P : Kind → Type 0
+      P : Chosen → Type 0
       P k = Facts m k x → Marked of_peer false (eqb u 0 || eqb u 5) x
 
       is : (n : ℕ) → eqb u n ≡ true → Marked of_peer false (eqb n 0 || eqb n 5) x → Marked of_peer false (eqb u 0 || eqb u 5) x
@@ -51,7 +51,7 @@ module _ (m : List ℕ) (x : Shown) where
       (by_test P (in_range 4 u 5) _ _ (λ e f. rw (not_first 4 u 5 refl e) f.1)
       (by_test P (eqb u 6) _ _ (λ e f. rw (eqb-true u 6 e) f.1) (λ f. absurd f))))
     where
-      P : Kind → Type 0
+      P : Chosen → Type 0
       P k = Facts m k x → Marked (choose (eqb u 1) table rib) false false x
 
   -- type 12, and the state changes of types 16 and 17, are told apart with the sort
@@ -66,7 +66,7 @@ module _ (m : List ℕ) (x : Shown) where
       (by_test P (eqb y 16) _ _ (λ e f. of 16 e (marks16 0 u f))
       (by_test P (eqb y 17) _ _ (λ e f. of 17 e (marks16 4 u f)) (λ f. absurd f))))))
     where
-      P : Kind → Type 0
+      P : Chosen → Type 0
       P k = Facts m k x → Marked (sort_by y u) (eqb y 12) (change_by y u) x
 
       of : (n : ℕ) → eqb y n ≡ true → Marked (sort_by n u) (eqb n 12) (change_by n u) x → Marked (sort_by y u) (eqb y 12) (change_by y u) x

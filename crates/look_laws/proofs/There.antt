@@ -12,10 +12,10 @@ use borrow.Author.Tests.{ltb-false, eq-eqb, ne_eqb, eqb-true}
 use Rattle.form_spec.specs.Words.{choose, in_range}
 use Rattle.octets_spec.specs.Be.{num_at}
 use Rattle.page_spec.specs.Layout.{kind12, kind13, kind16, kind, finer}
-use Rattle.page_spec.specs.declared.Kind.{Kind}
-use Rattle.page_spec.specs.declared.Kind.TheVariants as chosen
-use Rattle.record_spec.specs.declared.Table.{Table}
-use Rattle.record_spec.specs.declared.Shown.{Shown}
+use Rattle.page_spec.specs.Chosen.{Chosen}
+use Rattle.page_spec.specs.Chosen as chosen
+use Rattle.record_spec.specs.Table.{Table}
+use Rattle.record_spec.specs.Shown.{Shown}
 use Rattle.record_spec.specs.Answer.{fault}
 use Rattle.record_spec.specs.One.{shown_as, whole_record, read_one}
 use Rattle.page_laws.proofs.Choice.{Says, kind_says, by_test, either}
@@ -23,6 +23,7 @@ use Rattle.look_spec.specs.Sort.{is_route, is_change, sort_of, sort_by}
 use Rattle.look_spec.specs.Field.{type_of, subtype_of, time_of, peer_of, sequence_of, states_of, items_at, count_of, width_of, change_by, Told, shown, Good, Is, Shows, Ends, Counted}
 use Rattle.look_laws.proofs.Good.{IsState, Marked, Heads, Counts, Spoken, Routed, Turned, Facts, facts, micro_in, behind_prefix}
 use Rattle.look_laws.proofs.Sort.{marks_say}
+use Rattle.std.specs.Prelude.{Err}
 
 -- ---- the record that starts s
 
@@ -64,9 +65,9 @@ starts longest t s some good = go (ltb (length s) 12) refl (ltb (length s - 12) 
 -- ---- what the kind says, taken apart
 
 module _ (m : List ℕ) (x : Shown) where
-  heads_of : (y u : ℕ) (k : Kind) → Says y u k → Facts m k x → Heads m (choose (finer y) 4 0) x
+  heads_of : (y u : ℕ) (k : Chosen) → Says y u k → Facts m k x → Heads m (choose (finer y) 4 0) x
   unfolding choose finer
-  heads_of y u (chosen.Refused n p) s f = absurd f
+  heads_of y u (Err why) s f = absurd f
   heads_of y u (chosen.Unread micro) s f = ⊎_elim (λ (a : (finer y ≡ false) × (micro ≡ 0)). rw (a.0, ← a.1) f.0) (λ (a : (finer y ≡ true) × (micro ≡ 4)). rw (a.0, ← a.1) f.0) s
   heads_of y u (chosen.TableDump size) s f = rw s f.0
   heads_of y u chosen.PeerTable s f = rw s.0 f.0
@@ -84,7 +85,7 @@ module _ (m : List ℕ) (x : Shown) where
   unfolding kind12
   routed_other u h = by_test P (eqb u 1) _ _ (λ e. absurd (h (eqb-true u 1 e))) (by_test P (eqb u 2) _ _ (λ e f. f.2) (λ f. absurd f))
     where
-      P : Kind → Type 0
+      P : Chosen → Type 0
       P k = Facts m k x → Routed m 16 x
 
   -- type 13
@@ -104,7 +105,7 @@ module _ (m : List ℕ) (x : Shown) where
       (by_test P (in_range 4 u 5) _ _ (λ e f. f.2)
       (by_test P (eqb u 6) _ _ (λ e. absurd (g (eqb-true u 6 e))) (λ f. absurd f))))
     where
-      P : Kind → Type 0
+      P : Chosen → Type 0
       P k = Facts m k x → Counts m (behind_prefix m 16) x
 
   -- types 16 and 17, of either width
@@ -116,7 +117,7 @@ module _ (m : List ℕ) (x : Shown) where
       (by_test P (eqb u 1 || eqb u 6) _ _ (λ e f. ⊎_elim (λ z. is 1 2 refl z f.2) (λ z. is 6 2 refl z f.2) (either (eqb u 1) (eqb u 6) e))
       (by_test P (eqb u 4 || eqb u 7) _ _ (λ e f. ⊎_elim (λ z. is 4 4 refl z f.2) (λ z. is 7 4 refl z f.2) (either (eqb u 4) (eqb u 7) e)) (λ f. absurd f))))
     where
-      P : Kind → Type 0
+      P : Chosen → Type 0
       P k = Facts m k x → Spoken m micro (width_of u) x
 
       is : (n w : ℕ) → w ≡ width_of n → eqb u n ≡ true → Spoken m micro w x → Spoken m micro (width_of u) x
@@ -124,8 +125,8 @@ module _ (m : List ℕ) (x : Shown) where
 
 -- what a record of type 12, and a state change, has alone
 module _ (m : List ℕ) (x : Shown) where
-  sequenced : (k : Kind) → Facts m k x → is_route x ≡ true → (sequence_of x ≡ num_at m 14 2) × (16 ≤ length m)
-  sequenced (chosen.Refused n p) f e = absurd f
+  sequenced : (k : Chosen) → Facts m k x → is_route x ≡ true → (sequence_of x ≡ num_at m 14 2) × (16 ≤ length m)
+  sequenced (Err why) f e = absurd f
   sequenced (chosen.Unread micro) f e = absurd (false≢true (sym f.1.1 ∙ e))
   sequenced (chosen.TableDump size) f e = (f.2.sequence, omega (arith, f.2.inside))
   sequenced chosen.PeerTable f e = absurd (false≢true (sym f.1.1 ∙ e))
@@ -134,8 +135,8 @@ module _ (m : List ℕ) (x : Shown) where
   sequenced (chosen.Change micro w) f e = absurd (false≢true (sym f.1.1 ∙ e))
   sequenced (chosen.Message micro w) f e = absurd (false≢true (sym f.1.1 ∙ e))
 
-  turned : (k : Kind) → Facts m k x → is_change x ≡ true → (c : ℕ) × Turned m c x
-  turned (chosen.Refused n p) f e = absurd f
+  turned : (k : Chosen) → Facts m k x → is_change x ≡ true → (c : ℕ) × Turned m c x
+  turned (Err why) f e = absurd f
   turned (chosen.Unread micro) f e = absurd (false≢true (sym f.1.2 ∙ e))
   turned (chosen.TableDump size) f e = absurd (false≢true (sym f.1.2 ∙ e))
   turned chosen.PeerTable f e = absurd (false≢true (sym f.1.2 ∙ e))

@@ -2,9 +2,9 @@
 use Rattle.std.specs.Prelude.{◌≡◌, Bool, ◌||◌, ◌&&◌, List, ℕ, ◌+◌, ◌≤◌, ◌<◌, eqb, length, drop}
 use Rattle.form_spec.specs.Words.{choose}
 use Rattle.octets_spec.specs.Be.{num_at}
-use Rattle.record_spec.specs.declared.Table.{Table}
+use Rattle.record_spec.specs.Table.{Table}
 use Rattle.record_spec.specs.declared.States.{States}
-use Rattle.record_spec.specs.declared.Shown.{Shown}
+use Rattle.record_spec.specs.Shown.{Shown}
 use Rattle.record_spec.specs.declared.Body.{Body}
 use Rattle.record_spec.specs.declared.Body.TheVariants.{Unread, TableDump, PeerTable, Rib, RibGeneric, Change, Message}
 use Rattle.record_spec.specs.Answer.{of_body, fault, place, header_of, time}

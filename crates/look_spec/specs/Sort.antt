@@ -1,7 +1,7 @@
 -- The four sorts of records that document 01's cut tells apart: carried unread; of one peer, types 12, 16 and 17; peer tables; RIB records.
 use Rattle.std.specs.Prelude.{Bool, true, false, ◌||◌, ℕ, eqb}
 use Rattle.form_spec.specs.Words.{choose}
-use Rattle.record_spec.specs.declared.Shown.{Shown}
+use Rattle.record_spec.specs.Shown.{Shown}
 use Rattle.record_spec.specs.declared.Body.{Body}
 use Rattle.record_spec.specs.declared.Body.TheVariants.{Unread, TableDump, PeerTable, Rib, RibGeneric, Change, Message}
 use Rattle.record_spec.specs.Answer.{of_body}

@@ -8,15 +8,15 @@ use lib.Dec.{eqb}
 use borrow.Author.Tests.{eqb-true}
 use Rattle.form_spec.specs.Words.{choose, in_range}
 use Rattle.page_spec.specs.Layout.{kind12, kind13, kind16, kind, finer}
-use Rattle.page_spec.specs.declared.Kind.{Kind}
-use Rattle.page_spec.specs.declared.Kind.TheVariants.{Refused, Unread, TableDump, PeerTable, Rib, RibGeneric, Change, Message}
+use Rattle.page_spec.specs.Chosen.{Chosen, Unread, TableDump, PeerTable, Rib, RibGeneric, Change, Message}
+use Rattle.std.specs.Prelude.{Err}
 
 -- type 16, or type 17 behind microseconds
 abbrev pub Bgp : (type micro : ℕ) → Type 0
 Bgp y micro = ((y ≡ 16) × (micro ≡ 0)) ⊎ ((y ≡ 17) × (micro ≡ 4))
 
-abbrev pub Says : (type sub : ℕ) → Kind → Type 0
-Says y u (Refused n p) = (0 < n) × (p ≤ 12)
+abbrev pub Says : (type sub : ℕ) → Chosen → Type 0
+Says y u (Err why) = (0 < why.number) × (why.place ≤ 12)
 Says y u (Unread micro) = ((finer y ≡ false) × (micro ≡ 0)) ⊎ ((finer y ≡ true) × (micro ≡ 4))
 Says y u (TableDump size) = y ≡ 12
 Says y u PeerTable = (y ≡ 13) × (u ≡ 1)
@@ -26,7 +26,7 @@ Says y u (Change micro w) = Bgp y micro
 Says y u (Message micro w) = Bgp y micro
 
 -- by the tests, one after another
-pub by_test : (P : Kind → Type 0) (b : Bool) (k j : Kind) → (b ≡ true → P k) → P j → P (choose b k j)
+pub by_test : (P : Chosen → Type 0) (b : Bool) (k j : Chosen) → (b ≡ true → P k) → P j → P (choose b k j)
 unfolding choose
 by_test P true k j h g = h refl
 by_test P false k j h g = g

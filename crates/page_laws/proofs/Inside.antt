@@ -12,8 +12,8 @@ use Rattle.page_spec.specs.Rib.{tiling, attributes, entry_rest, prefix, rib_head
 use Rattle.page_spec.specs.TableDump.{table_dump_rest, table_dump}
 use Rattle.page_spec.specs.Peers.{peer_rest, peer_sized, peer, table_head}
 use Rattle.page_spec.specs.Layout.{kind, stamped, layout_for, layout}
-use Rattle.page_spec.specs.declared.Kind.{Kind}
-use Rattle.page_spec.specs.declared.Kind.TheVariants.{Refused, Unread, TableDump, PeerTable, Rib, RibGeneric, Change, Message}
+use Rattle.page_spec.specs.Chosen.{Chosen, Unread, TableDump, PeerTable, Rib, RibGeneric, Change, Message}
+use Rattle.std.specs.Prelude.{Err}
 
 by_test : (t : Bool) (f g : Fmt) (i : ℕ) → Inside f i → Inside g i → Inside (choose t f g) i
 unfolding choose
@@ -98,9 +98,9 @@ in_table i = omega arith
 
 -- ---- whatever the Type and the Subtype
 
-in_kind : (longest : ℕ) (k : Kind) → InsideLayout (layout_for longest k)
+in_kind : (longest : ℕ) (k : Chosen) → InsideLayout (layout_for longest k)
 unfolding layout_for InsideLayout Inside
-in_kind longest (Refused n place) = omega arith
+in_kind longest (Err why) = omega arith
 in_kind longest (Unread micro) = in_stamped (end 0) (λ i. omega arith) micro 12
 in_kind longest (TableDump size) = in_table_dump size 12
 in_kind longest PeerTable = (in_table 12, in_peer 0)

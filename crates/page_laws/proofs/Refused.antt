@@ -5,12 +5,13 @@ use mathlib.Core.Logic.{◌⊎◌, inl, inr}
 use Prim.Native.Nat.{ℕ}
 use Rattle.form_spec.specs.Words.{choose}
 use Rattle.page_spec.specs.Layout.{kind12, kind13, kind16, kind}
-use Rattle.page_spec.specs.declared.Kind.{Kind}
-use Rattle.page_spec.specs.declared.Kind.TheVariants.{Refused, Unread, TableDump, PeerTable, Rib, RibGeneric, Change, Message}
+use Rattle.page_spec.specs.Chosen.{Chosen, Unread, TableDump, PeerTable, Rib, RibGeneric, Change, Message}
 use Rattle.page_laws.proofs.Choice.{by_test}
+use Rattle.form_spec.specs.Refusal.{refused}
+use Rattle.std.specs.Prelude.{Err}
 
-abbrev pub Refuses : Kind → Type 0
-Refuses (Refused n p) = ((n ≡ 3) × (p ≡ 4)) ⊎ ((n ≡ 4) × (p ≡ 6))
+abbrev pub Refuses : Chosen → Type 0
+Refuses (Err why) = ((why.number ≡ 3) × (why.place ≡ 4)) ⊎ ((why.number ≡ 4) × (why.place ≡ 6))
 Refuses (Unread micro) = Unit
 Refuses (TableDump size) = Unit
 Refuses PeerTable = Unit
@@ -19,10 +20,10 @@ Refuses RibGeneric = Unit
 Refuses (Change micro w) = Unit
 Refuses (Message micro w) = Unit
 
-either_refuses : (t : Bool) (k j : Kind) → Refuses k → Refuses j → Refuses (choose t k j)
+either_refuses : (t : Bool) (k j : Chosen) → Refuses k → Refuses j → Refuses (choose t k j)
 either_refuses t k j h g = by_test Refuses t k j (λ e. h) g
 
-by_subtype : Refuses (Refused 4 6)
+by_subtype : Refuses (refused 4 6)
 by_subtype = inr (refl, refl)
 
 refuses_16 : (micro sub : ℕ) → Refuses (kind16 micro sub)

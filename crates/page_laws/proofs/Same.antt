@@ -19,7 +19,8 @@ use Rattle.page_spec.specs.Peers.{table_head, peer, peer_list, peer_table}
 use Rattle.page_spec.specs.TableDump.{table_dump}
 use Rattle.page_spec.specs.Bgp4mp.{session, state_change, message}
 use Rattle.page_spec.specs.Layout.{layout_for, stamped}
-use Rattle.page_spec.specs.declared.Kind.TheVariants.{Refused, Unread, TableDump, PeerTable, Rib, RibGeneric, Change, Message}
+use Rattle.page_spec.specs.Chosen.{Unread, TableDump, PeerTable, Rib, RibGeneric, Change, Message}
+use Rattle.form_spec.specs.Refusal.{refused}
 
 -- where a table is in force, the items of a RIB record are the page's entries
 pub plan_entries : (ns : List ℕ) (f : Fmt) → plan (with_peers ns) (entries f entry_rest) ≡ many f (entry (length ns))
@@ -75,7 +76,7 @@ module _ {A : Type 0} (to : List Seen → A) (fault : ℕ → ℕ → A) (longes
   unread_body show st micro = pass_free show fault (stamped micro (end 0)) m i h
 
   -- a layout that is refused, and a RIB record with no table in force
-  pub refused_body : (st : St) (n place : ℕ) → read_body (plan st (layout_for longest (Refused (suc n) place))) i (drop i m) ≡ bad (suc n) (i - (12 - place))
+  pub refused_body : (st : St) (n place : ℕ) → read_body (plan st (layout_for longest (refused (suc n) place))) i (drop i m) ≡ bad (suc n) (i - (12 - place))
   unfolding plan layout_for read_body read
   refused_body st n place = refl
 

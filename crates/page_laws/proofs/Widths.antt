@@ -7,16 +7,16 @@ use lib.Dec.{eqb}
 use Rattle.form_spec.specs.Words.{choose, in_range}
 use Rattle.page_spec.specs.Layout.{kind12, kind13, kind16, kind}
 use Rattle.page_spec.specs.Sane.{Sane}
-use Rattle.page_spec.specs.declared.Kind.{Kind}
-use Rattle.page_spec.specs.declared.Kind.TheVariants.{Refused, Unread, TableDump, PeerTable, Rib, RibGeneric, Change, Message}
+use Rattle.page_spec.specs.Chosen.{Chosen, Unread, TableDump, PeerTable, Rib, RibGeneric, Change, Message}
+use Rattle.std.specs.Prelude.{Err}
 
-module _ (P : Kind → Type 0) where
-  each : (b : Bool) (x y : Kind) → P x → P y → P (choose b x y)
+module _ (P : Chosen → Type 0) where
+  each : (b : Bool) (x y : Chosen) → P x → P y → P (choose b x y)
   unfolding choose
   each true x y p q = p
   each false x y p q = q
 
-either : (b : Bool) (x y : Kind) → Sane x → Sane y → Sane (choose b x y)
+either : (b : Bool) (x y : Chosen) → Sane x → Sane y → Sane (choose b x y)
 either = each Sane
 
 pub sane12 : (sub : ℕ) → Sane (kind12 sub)
@@ -35,8 +35,8 @@ sane16 micro sub h =
     either (eqb sub 0) _ _ two (either (eqb sub 5) _ _ four (either (eqb sub 1 || eqb sub 6) _ _ two (either (eqb sub 4 || eqb sub 7) _ _ four tt)))
 
 -- a kind of types 16 and 17 has the microseconds m
-abbrev pub Stamps : (m : ℕ) → Kind → Type 0
-Stamps m (Refused n p) = Unit
+abbrev pub Stamps : (m : ℕ) → Chosen → Type 0
+Stamps m (Err why) = Unit
 Stamps m (Unread micro) = Unit
 Stamps m (TableDump size) = Unit
 Stamps m PeerTable = Unit

@@ -4,5 +4,6 @@ pub mod Bgp4mp
 pub mod Rib
 pub mod TableDump
 pub mod Peers
+pub mod Chosen
 pub mod Layout
 pub mod Sane

@@ -1,10 +1,9 @@
 -- The widths that a kind can name.
-use Rattle.std.specs.Prelude.{◌≤◌}
-use Rattle.page_spec.specs.declared.Kind.{Kind}
-use Rattle.page_spec.specs.declared.Kind.TheVariants.{Refused, Unread, TableDump, PeerTable, Rib, RibGeneric, Change, Message}
+use Rattle.std.specs.Prelude.{◌≤◌, Err}
+use Rattle.page_spec.specs.Chosen.{Chosen, Unread, TableDump, PeerTable, Rib, RibGeneric, Change, Message}
 
-abbrev pub Sane : Kind → Type 0
-Sane (Refused n p) = Unit
+abbrev pub Sane : Chosen → Type 0
+Sane (Err why) = Unit
 Sane (Unread micro) = micro ≤ 4
 Sane (TableDump size) = size ≤ 16
 Sane PeerTable = Unit

@@ -1,10 +1,8 @@
 #![tactic(auto)]
 
 // The layout that a Type and a Subtype choose. `micro` is 4 where the message starts with microseconds, else 0.
-#[derive(Drop)]
+#[derive(Clone, Copy)]
 pub enum Kind {
-    // a fault's number, and where its field stands in the header
-    Refused(u8, usize),
     // micro
     Unread(usize),
     // type 12: octets of an address

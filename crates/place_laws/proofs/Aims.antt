@@ -21,13 +21,13 @@ use Rattle.page_spec.specs.Rib.{tiling, attributes, entry_rest, prefix, rib_head
 use Rattle.page_spec.specs.TableDump.{table_dump_rest, table_dump}
 use Rattle.page_spec.specs.Peers.{peer_rest, peer_sized, peer, table_head}
 use Rattle.page_spec.specs.Layout.{kind, stamped, layout_for, layout}
-use Rattle.page_spec.specs.declared.Kind.{Kind}
-use Rattle.page_spec.specs.declared.Kind.TheVariants.{Refused, Unread, TableDump, PeerTable, Rib, RibGeneric, Change, Message}
+use Rattle.page_spec.specs.Chosen.{Chosen, Unread, TableDump, PeerTable, Rib, RibGeneric, Change, Message}
 use Rattle.page_laws.proofs.Refused.{Refuses, refuses}
 use Rattle.place_spec.specs.About.{timestamp_field, type_field, subtype_field, length_field, about, there_from}
 use Rattle.place_spec.specs.Failed.{judged, name_of}
 use Rattle.place_spec.specs.Faulty.{header_then}
 use Rattle.place_laws.proofs.Failed.{Trail, latest_in, Reaches, Placed, AimsTo, Over, Aims}
+use Rattle.std.specs.Prelude.{Err}
 
 -- ---- the words of a page
 
@@ -246,10 +246,10 @@ Row (free f) = Aims (header_then f) []
 Row (many f g) = Aims (header_then (f ⨾ counted 0 g)) []
 
 module _ (longest : ℕ) where
-  aims_kind : (st : St) (k : Kind) → Refuses k → Row (plan st (layout_for longest k))
+  aims_kind : (st : St) (k : Chosen) → Refuses k → Row (plan st (layout_for longest k))
   unfolding plan layout_for about judged there_from choose
-  aims_kind st (Refused n p) (inl z) = rw (z.0, z.1) (aims_header _ at_type)
-  aims_kind st (Refused n p) (inr z) = rw (z.0, z.1) (aims_header _ (at_subtype 3 refl refl (λ y. refl)))
+  aims_kind st (Err why) (inl z) = rw (z.0, z.1) (aims_header _ at_type)
+  aims_kind st (Err why) (inr z) = rw (z.0, z.1) (aims_header _ (at_subtype 3 refl refl (λ y. refl)))
   aims_kind st (Unread micro) z = aims_header _ (aims_stamped Over (end 0) no_more micro _ refl)
   aims_kind st (TableDump size) z = aims_header _ (aims_table_dump size _ refl)
   aims_kind st PeerTable z = aims_header _ (aims_then Over _ _ _ (aims_table _ refl) (aims_counted peer aims_peer))

@@ -17,13 +17,13 @@ use Rattle.form_laws.proofs.Record.{length-write, sound_rec}
 use Rattle.form_laws.proofs.Moved.{moved, moved_record}
 use Rattle.page_spec.specs.Layout.{layout}
 use Rattle.page_laws.proofs.Inside.{inside}
-use Rattle.record_spec.specs.declared.Table.{Table}
-use Rattle.record_spec.specs.declared.Shown.TheVariants.{Refused}
+use Rattle.record_spec.specs.Table.{Table}
 use Rattle.record_spec.specs.One.{read_one}
 use Rattle.record_spec.specs.Tells.{Tells}
 use Rattle.record_laws.proofs.One.{one_record}
 use Rattle.place_spec.specs.Faulty.{record_end, FaultyDump}
 use Rattle.place_laws.proofs.Record.{faulty_record, faulty_exactly, faulty_some, place_in}
+use Rattle.form_spec.specs.Refusal.{refused}
 
 module _ (longest : ℕ) where
   -- the walk w over d from offset at, where st is the table in force, went over whole records up to a fault
@@ -119,7 +119,7 @@ module _ (longest : ℕ) where
         (faulty_exactly longest st h.rest o (faulty_some longest st h.rest n (p - start) h.faulty) n (p - start)).0 h.faulty
 
     -- and so it is shown, where the table in force is told
-    pub shown_alone : Octets d → (t : Table) → Tells t st → read_one longest t (drop start d) ≡ Refused n (p - start)
+    pub shown_alone : Octets d → (t : Table) → Tells t st → read_one longest t (drop start d) ≡ refused n (p - start)
     shown_alone oc t told =
         let o : Octets h.rest = octets_right (writes h.recs) h.rest (subst Octets (sym h.octets) oc) in
         rw rest_is (rw (read_alone oc) at (one_record longest t st told h.rest o (faulty_some longest st h.rest n (p - start) h.faulty)))

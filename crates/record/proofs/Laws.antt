@@ -14,8 +14,7 @@ use Rattle.octets_spec.specs.Be.{num_at}
 use Rattle.octets_spec.specs.Field.{field_at}
 use Rattle.octets_spec.specs.declared.Num.{Num}
 use Rattle.octets_spec.specs.declared.Num.TheVariants.{Value, Short}
-use Rattle.record_spec.specs.declared.Shown.{Shown}
-use Rattle.record_spec.specs.declared.Shown.TheVariants.{Refused}
+use Rattle.record_spec.specs.Shown.{Shown}
 use Rattle.record_spec.specs.declared.Header.{Header}
 use Rattle.record_spec.specs.One.{header, behind}
 use Rattle.record.specs.Stamp.{stamp_of}
@@ -23,12 +22,13 @@ use Rattle.record.specs.declared.Stamp.{Stamp}
 use Rattle.record.specs.declared.Stamp.TheVariants.{With}
 use Rattle.record.specs.declared.Stamp.TheVariants as stamp
 use Rattle.record.specs.Small.{Small}
+use Rattle.form_spec.specs.Refusal.{refused}
 
 -- the header h was read with its microseconds, and k says what stands behind them at a place
 module _ (m : List ℕ) (k : Header → ℕ → Shown) where
   abbrev pub onward : Stamp → Shown
   onward (With h at) = k h at
-  onward stamp.Short = Refused 5 12
+  onward stamp.Short = refused 5 12
 
   onward_is : (n : Num) → onward (stamp_of m n) ≡ behind n (λ u at. k (header m u) at)
   unfolding behind

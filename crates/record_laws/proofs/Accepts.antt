@@ -15,19 +15,19 @@ use Rattle.form_laws.proofs.Fmt.{Right}
 use Rattle.form_laws.proofs.Record.{sound_rec}
 use Rattle.form_laws.proofs.Exactly.{exactly}
 use Rattle.page_spec.specs.Layout.{kind, layout_for, layout}
-use Rattle.page_spec.specs.declared.Kind.{Kind}
-use Rattle.page_spec.specs.declared.Kind.TheVariants as kinds
+use Rattle.page_spec.specs.Chosen.{Chosen}
+use Rattle.page_spec.specs.Chosen as kinds
 use Rattle.page_laws.proofs.Choice.{Says, kind_says}
-use Rattle.record_spec.specs.declared.Shown.TheVariants.{Nothing, Refused}
-use Rattle.record_spec.specs.declared.Table.{Table}
-use Rattle.record_spec.specs.declared.Table.TheVariants.{Absent, Holds}
-use Rattle.record_spec.specs.Table.{state_of}
+use Rattle.record_spec.specs.Shown.{Nothing}
+use Rattle.record_spec.specs.Table.{Table, Absent, Holds, state_of}
 use Rattle.record_spec.specs.One.{read_one}
 use Rattle.record_spec.specs.Answer.{fault}
 use Rattle.write_spec.specs.Only.{writer}
 use Rattle.record_spec.specs.Tells.{Tells}
 use Rattle.record_spec.specs.Agrees.{Agrees, Same}
 use Rattle.record_laws.proofs.One.{one_record}
+use Rattle.form_spec.specs.Refusal.{refused}
+use Rattle.std.specs.Prelude.{Err}
 
 -- no octets: nothing is shown, and that is no fault
 pub no_octets : (longest : ℕ) (t : Table) → read_one longest t [] ≡ Nothing
@@ -58,9 +58,9 @@ accepts_one longest t st tells s oc h =
     go (good r q) e a w = (λ z. (r, q, w.0, w.1), λ v. a.accepted)
 
 -- a record of a kind that has no writer is not well-formed
-unlisted : (longest : ℕ) (st : St) (y u : ℕ) (k : Kind) (b : Body) → Says y u k → 0 ≡ writer k → BodyFits (plan st (layout_for longest k)) b → ⊥
+unlisted : (longest : ℕ) (st : St) (y u : ℕ) (k : Chosen) (b : Body) → Says y u k → 0 ≡ writer k → BodyFits (plan st (layout_for longest k)) b → ⊥
 unfolding layout_for plan BodyFits Fits
-unlisted longest st y u (kinds.Refused n p) (plain cs) h e f = omega (arith, h.0, f.0)
+unlisted longest st y u (Err why) (plain cs) h e f = omega (arith, h.0, f.0)
 unlisted longest st y u (kinds.Unread micro) b h e f = omega arith
 unlisted longest st y u (kinds.TableDump size) b h e f = omega arith
 unlisted longest st y u kinds.PeerTable b h e f = omega arith
@@ -68,10 +68,10 @@ unlisted longest st y u (kinds.Rib bits) b h e f = omega arith
 unlisted longest st y u kinds.RibGeneric b h e f = omega arith
 unlisted longest st y u (kinds.Change micro w) b h e f = omega arith
 unlisted longest st y u (kinds.Message micro w) b h e f = omega arith
-unlisted longest st y u (kinds.Refused n p) (loose _ _) h e f = elim f [ ]
-unlisted longest st y u (kinds.Refused n p) (listed _ _) h e f = elim f [ ]
+unlisted longest st y u (Err why) (loose _ _) h e f = elim f [ ]
+unlisted longest st y u (Err why) (listed _ _) h e f = elim f [ ]
 
 -- so no well-formed record is shown as a fault, wherever faults are placed
-pub not_refused : (longest : ℕ) (st : St) (s : List ℕ) (r : Rec) (n p : ℕ) → Valid (layout longest) st r → Same longest s r (Refused n p) → ⊥
+pub not_refused : (longest : ℕ) (st : St) (s : List ℕ) (r : Rec) (n p : ℕ) → Valid (layout longest) st r → Same longest s r (refused n p) → ⊥
 unfolding layout
 not_refused longest st s r n p v m = unlisted longest st r.type r.sub (kind r.type r.sub) r.body (kind_says r.type r.sub) m.whose v.fits

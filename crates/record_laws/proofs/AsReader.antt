@@ -19,12 +19,10 @@ use Rattle.form_spec.specs.Aligned.{Placed}
 use Rattle.form_laws.proofs.Octets.{length-to_be}
 use Rattle.form_laws.proofs.Refuses.{refuses_record}
 use Rattle.page_spec.specs.Layout.{layout, unlisted}
-use Rattle.page_spec.specs.declared.Kind.{Kind}
-use Rattle.page_spec.specs.declared.Kind.TheVariants.{Refused}
-use Rattle.record_spec.specs.declared.Table.{Table}
-use Rattle.record_spec.specs.Table.{state_of}
+use Rattle.page_spec.specs.Chosen.{Chosen}
+use Rattle.record_spec.specs.Table.{Table, state_of}
 use Rattle.record_spec.specs.Reads.{number_at}
-use Rattle.room_spec.specs.declared.Written.{Written}
+use Rattle.room_spec.specs.Written.{Written}
 use Rattle.room_spec.specs.Answer.{fault, place}
 use Rattle.room_spec.specs.Room.{number_for, place_for}
 use Rattle.write_spec.specs.declared.Time.{Time}
@@ -34,6 +32,7 @@ use Rattle.write_spec.specs.Givens.{unread_given, table_dump_given, peer_table_g
 use Rattle.write_spec.specs.Verdict.{Writes}
 use Rattle.record_laws.proofs.Only.{own_refusal, own_refusal_untold}
 use Rattle.record_laws.proofs.Own.{own_table_dump, own_peer_table, own_rib_generic}
+use Rattle.form_spec.specs.Refusal.{refused}
 
 -- ---- the number of a record whose values are placed
 
@@ -80,19 +79,19 @@ module _ (longest : ℕ) (t : Table) (out held : List ℕ) (r : Written) where
   as_read l st g alike h w = w.2.0 ∙ ap (λ (n : ℕ). number_for n (octets g) out) (alike ∙ number_alone longest t g h)
 
   -- a writer that is told of the same table
-  pub told_as_read : (n : ℕ) (other : Kind) (g : Given) → Own n other g → Placed (layout longest) (state_of t) g → Writes (only n other longest) (state_of t) g out r held → AsRead longest t out r g
+  pub told_as_read : (n : ℕ) (other : Chosen) (g : Given) → Own n other g → Placed (layout longest) (state_of t) g → Writes (only n other longest) (state_of t) g out r held → AsRead longest t out r g
   told_as_read n other g o h w = as_read (only n other longest) (state_of t) g (own_refusal n other longest (state_of t) g o) h w
 
   -- a writer that is told of none, since its records ask for none
-  pub untold_as_read : (n a p : ℕ) (g : Given) → (n ≡ ribs → ⊥) → (n ≡ generic_ribs → ⊥) → Own n (Refused (suc a) p) g → Placed (layout longest) (state_of t) g
-      → Writes (only n (Refused (suc a) p) longest) no_table g out r held → AsRead longest t out r g
-  untold_as_read n a p g x y o h w = as_read (only n (Refused (suc a) p) longest) no_table g (own_refusal_untold n a p longest (state_of t) g o x y) h w
+  pub untold_as_read : (n a p : ℕ) (g : Given) → (n ≡ ribs → ⊥) → (n ≡ generic_ribs → ⊥) → Own n (refused (suc a) p) g → Placed (layout longest) (state_of t) g
+      → Writes (only n (refused (suc a) p) longest) no_table g out r held → AsRead longest t out r g
+  untold_as_read n a p g x y o h w = as_read (only n (refused (suc a) p) longest) no_table g (own_refusal_untold n a p longest (state_of t) g o x y) h w
 
   -- ---- the seven writers
 
   pub unread_refuses_as_read : (time : Time) (type sub : ℕ) (contents : List ℕ)
       → let g = unread_given time type sub contents in
-      Own (unreads (micro_size time)) (Refused 3 4) g → Placed (layout longest) (state_of t) g → Writes (only_type (unreads (micro_size time)) longest) no_table g out r held → AsRead longest t out r g
+      Own (unreads (micro_size time)) (refused 3 4) g → Placed (layout longest) (state_of t) g → Writes (only_type (unreads (micro_size time)) longest) no_table g out r held → AsRead longest t out r g
   unread_refuses_as_read time type sub contents o h w = untold_as_read _ 2 4 _ (λ e. omega arith) (λ e. omega arith) o h w
 
   pub table_dump_refuses_as_read : (timestamp sub view sequence : ℕ) (prefix : List ℕ) (bits status originated : ℕ) (address : List ℕ) (peer : ℕ) (attributes : List ℕ)

@@ -22,12 +22,10 @@ use Rattle.octets_spec.specs.declared.Num.TheVariants as one
 use Rattle.page_spec.specs.Names.{microseconds}
 use Rattle.page_spec.specs.Bgp4mp.{session, state_change, message}
 use Rattle.page_spec.specs.Layout.{kind, layout_for, stamped, finer}
-use Rattle.page_spec.specs.declared.Kind.{Kind}
-use Rattle.page_spec.specs.declared.Kind.TheVariants.{Change, Message}
+use Rattle.page_spec.specs.Chosen.{Chosen, Change, Message}
 use Rattle.record_spec.specs.Fields as show
 use Rattle.record_spec.specs.declared.Header.{Header}
-use Rattle.record_spec.specs.declared.Shown.{Shown}
-use Rattle.record_spec.specs.declared.Shown.TheVariants.{Refused}
+use Rattle.record_spec.specs.Shown.{Shown}
 use Rattle.record_spec.specs.Answer.{fault, place, header_of, end}
 use Rattle.record_spec.specs.One.{micro_at, behind}
 use Rattle.write_spec.specs.Times.{bgp4mp}
@@ -41,28 +39,29 @@ use Rattle.page_laws.proofs.Choice.{Bgp}
 use Rattle.record_laws.proofs.Parts.{by_parts, rest_here}
 use Rattle.record_laws.proofs.Same.{head, rec, Stands, Reads, same, fields_agree}
 use Rattle.record_laws.proofs.Bgp4mp.{WrittenAsRead, change_of, message_of, change-parts, message-parts}
+use Rattle.form_spec.specs.Refusal.{refused}
 
 abbrev rest : List Seen → List Seen
 rest [] = []
 rest (x ∷ fs) = fs
 
 -- where there are four octets of microseconds
-pub behind_micro : (m : List ℕ) (k : ℕ → ℕ → Shown) → behind (micro_at m 4) k ≡ cond (ltb (length m) 16) (Refused 5 12) (k (be (take 4 (drop 12 m))) 16)
+pub behind_micro : (m : List ℕ) (k : ℕ → ℕ → Shown) → behind (micro_at m 4) k ≡ cond (ltb (length m) 16) (refused 5 12) (k (be (take 4 (drop 12 m))) 16)
 unfolding behind micro_at field_at num_at choose
 behind_micro m k = go (ltb (length m) 16)
   where
-    go : (b : Bool) → behind (choose b one.Short (one.Value (be (take 4 (drop 12 m))) 16)) k ≡ cond b (Refused 5 12) (k (be (take 4 (drop 12 m))) 16)
+    go : (b : Bool) → behind (choose b one.Short (one.Value (be (take 4 (drop 12 m))) 16)) k ≡ cond b (refused 5 12) (k (be (take 4 (drop 12 m))) 16)
     go true = refl
     go false = refl
 
 -- they are the layout's first field
 behind_whole : (m : List ℕ) (f : Fmt) (g : ℕ → List Seen → Shown)
-    → behind (micro_at m 4) (λ n at. whole (g n) Refused f m at) ≡ whole (λ fs. g (number_of microseconds fs) (rest fs)) Refused (stamped 4 f) m 12
+    → behind (micro_at m 4) (λ n at. whole (g n) refused f m at) ≡ whole (λ fs. g (number_of microseconds fs) (rest fs)) refused (stamped 4 f) m 12
 unfolding stamped num pass
-behind_whole m f g = behind_micro m (λ n at. whole (g n) Refused f m at)
+behind_whole m f g = behind_micro m (λ n at. whole (g n) refused f m at)
 
 -- f is the layout behind the microseconds, and values what a writer takes for it
-module _ (longest : ℕ) (s m q : List ℕ) (t y u len : ℕ) (l : Stands s m q len) (micro : ℕ) (k : Kind) (kd : kind y u ≡ k)
+module _ (longest : ℕ) (s m q : List ℕ) (t y u len : ℕ) (l : Stands s m q len) (micro : ℕ) (k : Chosen) (kd : kind y u ≡ k)
     (f : Fmt) (laid : layout_for longest k ≡ fields (stamped micro f))
     (show : Header → List Seen → Shown) (values : List Seen → List Value)
     (spelled : (i : ℕ) (cs : List (List ℕ)) (r : List ℕ) → join cs ++ r ≡ drop i s → Fits f cs → WrittenAsRead s show values cs (seen f i cs))
@@ -91,7 +90,7 @@ module _ (longest : ℕ) (s m q : List ℕ) (t y u len : ℕ) (l : Stands s m q 
   finely e d [] h j = elim h [ ]
 
   pub behind_agrees : (st : St) → Bgp y micro
-      → Reads longest s m q t y u len l (read_body (plan st (layout_for longest k)) 12 (drop 12 m)) (behind (micro_at m micro) λ n at. whole (show (head t y u len n)) Refused f m at)
+      → Reads longest s m q t y u len l (read_body (plan st (layout_for longest k)) 12 (drop 12 m)) (behind (micro_at m micro) λ n at. whole (show (head t y u len n)) refused f m at)
   unfolding plan stamped micro_at behind choose
   behind_agrees st (inl (e, d)) = rw (laid, d) (fields_agree longest s m q t y u len l f (show (head t y u len 0)) (plainly e d))
   behind_agrees st (inr (e, d)) =
@@ -101,7 +100,7 @@ module _ (longest : ℕ) (s m q : List ℕ) (t y u len : ℕ) (l : Stands s m q 
 module _ (longest : ℕ) (s m q : List ℕ) (t y u len : ℕ) (l : Stands s m q len) (st : St) (micro w : ℕ) (b : Bgp y micro) where
   pub change-agrees : kind y u ≡ Change micro w
       → Reads longest s m q t y u len l (read_body (plan st (layout_for longest (Change micro w))) 12 (drop 12 m))
-      (behind (micro_at m micro) λ n at. whole (show.change (head t y u len n)) Refused (session w state_change) m at)
+      (behind (micro_at m micro) λ n at. whole (show.change (head t y u len n)) refused (session w state_change) m at)
   unfolding layout_for
   change-agrees kd =
       behind_agrees longest s m q t y u len l micro (Change micro w) kd (session w state_change) refl show.change (change_of s w)
@@ -109,7 +108,7 @@ module _ (longest : ℕ) (s m q : List ℕ) (t y u len : ℕ) (l : Stands s m q 
 
   pub message-agrees : kind y u ≡ Message micro w
       → Reads longest s m q t y u len l (read_body (plan st (layout_for longest (Message micro w))) 12 (drop 12 m))
-      (behind (micro_at m micro) λ n at. whole (show.message (head t y u len n)) Refused (session w (message longest)) m at)
+      (behind (micro_at m micro) λ n at. whole (show.message (head t y u len n)) refused (session w (message longest)) m at)
   unfolding layout_for
   message-agrees kd =
       behind_agrees longest s m q t y u len l micro (Message micro w) kd (session w (message longest)) refl show.message (message_of s w)

@@ -20,7 +20,7 @@ use Rattle.page_spec.specs.Names.{microseconds, peer_as, local_as, interface, fa
 use Rattle.page_spec.specs.Bgp4mp.{addresses, session, state, state_change, message, message_rest}
 use Rattle.record_spec.specs.Fields as show
 use Rattle.record_spec.specs.declared.Header.{Header}
-use Rattle.record_spec.specs.declared.Shown.{Shown}
+use Rattle.record_spec.specs.Shown.{Shown}
 use Rattle.record_spec.specs.Answer.{within}
 use Rattle.write_spec.specs.Givens.{session_values, state_values, bgp_values}
 use Rattle.record_spec.specs.Agrees.{Typed}

@@ -23,13 +23,13 @@ use Rattle.page_spec.specs.TableDump.{table_dump_rest, table_dump}
 use Rattle.page_spec.specs.Peers.{peer_rest, peer_sized, peer, table_head}
 use Rattle.page_spec.specs.Tiles.{tiles}
 use Rattle.page_spec.specs.Layout.{kind, stamped, layout_for, layout}
-use Rattle.page_spec.specs.declared.Kind.{Kind}
-use Rattle.page_spec.specs.declared.Kind.TheVariants.{Refused, Unread, TableDump, PeerTable, Rib, RibGeneric, Change, Message}
+use Rattle.page_spec.specs.Chosen.{Chosen, Unread, TableDump, PeerTable, Rib, RibGeneric, Change, Message}
 use Rattle.page_laws.proofs.Choice.{Says, kind_says}
 use Rattle.page_laws.proofs.Refused.{Refuses, refuses}
 use Rattle.record_spec.specs.Named.{Named, name_in}
 use Rattle.record_laws.proofs.One.{rec_header, short_header}
 use Rattle.record_laws.proofs.Head.{by_name, name_of, message_in, held_in_record, name_in_message}
+use Rattle.std.specs.Prelude.{Err}
 
 -- ---- formats whose own checks give no other numbers than those up to 13
 
@@ -170,9 +170,9 @@ module _ (P : ℕ → Type 0) (low : (n : ℕ) → n ≤ 13 → P n) where
 
   module _ (longest : ℕ) (st : St) where
     -- a message, by its kind
-    found_body : (k : Kind) (at : ℕ) (bs : List ℕ) → Refuses k → (k ≡ PeerTable → 6 + num_at bs 4 2 ≤ length bs → is_text (name_of bs) ≡ false → P 17) → Found (read_body (plan st (layout_for longest k)) at bs)
+    found_body : (k : Chosen) (at : ℕ) (bs : List ℕ) → Refuses k → (k ≡ PeerTable → 6 + num_at bs 4 2 ≤ length bs → is_text (name_of bs) ≡ false → P 17) → Found (read_body (plan st (layout_for longest k)) at bs)
     unfolding plan layout_for read_body Low
-    found_body (Refused n p) at bs h w = found_just (test n (12 - p) (end 0)) at bs (⊎_elim (λ z. omega (arith, z.0)) (λ z. omega (arith, z.0)) h, tt)
+    found_body (Err why) at bs h w = found_just (test why.number (12 - why.place) (end 0)) at bs (⊎_elim (λ z. omega (arith, z.0)) (λ z. omega (arith, z.0)) h, tt)
     found_body (Unread micro) at bs h w = found_bind (read (stamped micro (end 0)) at bs) _ (found_read (stamped micro (end 0)) at bs (low_stamped micro (end 0) tt)) (λ cs r. none)
     found_body (TableDump size) at bs h w = found_just (table_dump size) at bs (low_table_dump size)
     found_body PeerTable at bs h w =

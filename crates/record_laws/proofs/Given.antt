@@ -9,8 +9,7 @@ use Rattle.form_spec.specs.Record.{Rec}
 use Rattle.form_spec.specs.Put.{Value, digits, bytes, spelled, lay, Tail, Given}
 use Rattle.form_spec.specs.Gives.{FitOne, Fit, Gives}
 use Rattle.form_laws.proofs.Octets.{be-to_be}
-use Rattle.record_spec.specs.declared.Shown.{Shown}
-use Rattle.record_spec.specs.declared.Shown.TheVariants.{Nothing, Refused, Good}
+use Rattle.record_spec.specs.Shown.{Shown, Nothing, Good}
 use Rattle.record_spec.specs.declared.Body.TheVariants.{Unread, TableDump, PeerTable, Rib, RibGeneric, Change, Message}
 use Rattle.record_spec.specs.Answer.{within}
 use Rattle.write_spec.specs.Times.{micro_size}
@@ -22,6 +21,7 @@ use Rattle.page_spec.specs.Layout.{finer}
 use Rattle.record_spec.specs.Again.{clock, again}
 use Rattle.record_spec.specs.Agrees.{writer_of}
 use Rattle.record_laws.specs.Forms.{form_of, forms, forms_for, Formed}
+use Rattle.std.specs.Prelude.{Err}
 
 same_one : (v w : Value) → form_of v ≡ form_of w → FitOne v → FitOne w → spelled v ≡ spelled w → v ≡ w
 same_one (digits a n) (digits b k) f h i e =
@@ -74,7 +74,7 @@ formed_unread (Micro t v) y u c = refl
 pub formed_again : (s : List ℕ) (x : Shown) → forms (again s x).values ≡ Formed (writer_of x) (again s x)
 unfolding forms_for choose
 formed_again s Nothing = refl
-formed_again s (Refused n p) = refl
+formed_again s (Err why) = refl
 formed_again s (Good h (Unread c)) = formed_unread (clock h) h.ty h.subtype (within s c)
 formed_again s (Good h (TableDump r)) = refl
 formed_again s (Good h (PeerTable p)) = refl

@@ -23,11 +23,9 @@ use Rattle.record_spec.specs.declared.Header.{Header}
 use Rattle.record_spec.specs.declared.Peers.{Peers}
 use Rattle.record_spec.specs.declared.Routes.{Routes}
 use Rattle.record_spec.specs.declared.Scope.{Scope}
-use Rattle.record_spec.specs.declared.Shown.{Shown}
-use Rattle.record_spec.specs.declared.Shown.TheVariants.{Good}
+use Rattle.record_spec.specs.Shown.{Shown, Good}
 use Rattle.record_spec.specs.declared.Body.TheVariants.{PeerTable, Rib, RibGeneric}
-use Rattle.record_spec.specs.declared.Table.{Table}
-use Rattle.record_spec.specs.declared.Table.TheVariants.{Absent, Holds}
+use Rattle.record_spec.specs.Table.{Table, Absent, Holds}
 use Rattle.record_spec.specs.One.{read_one}
 use Rattle.record_spec.specs.Tells.{Tells}
 use Rattle.record_spec.specs.Agrees.{Same}

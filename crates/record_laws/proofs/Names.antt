@@ -22,10 +22,9 @@ use Rattle.page_spec.specs.Peers.{table_head, peer}
 use Rattle.page_spec.specs.Layout.{kind13, kind, layout_for, layout}
 use Rattle.record_spec.specs.declared.Header.{Header}
 use Rattle.record_spec.specs.declared.Peers.{Peers}
-use Rattle.record_spec.specs.declared.Shown.TheVariants.{Nothing, Refused, Good}
+use Rattle.record_spec.specs.Shown.{Nothing, Good}
 use Rattle.record_spec.specs.declared.Body.TheVariants.{PeerTable}
-use Rattle.record_spec.specs.declared.Table.{Table}
-use Rattle.record_spec.specs.Table.{state_of}
+use Rattle.record_spec.specs.Table.{Table, state_of}
 use Rattle.record_spec.specs.One.{read_one}
 use Rattle.record_spec.specs.Agrees.{Agrees}
 use Rattle.record_spec.specs.Answer.{fault, within}
@@ -37,6 +36,7 @@ use Rattle.record_laws.proofs.Items.{right, read_same}
 use Rattle.record_laws.proofs.Numbers.{answers}
 use Rattle.record_laws.proofs.Head.{by_name, message_in, held_in_message, held_in_record, name_in_message}
 use Rattle.record_laws.proofs.Faults.{found_record}
+use Rattle.form_spec.specs.Refusal.{refused}
 
 -- where something is shown or refused, there are octets
 not_nothing : (longest : ℕ) (t : Table) (s : List ℕ) → (read_one longest t s ≡ Nothing → ⊥) → 0 < length s
@@ -80,7 +80,7 @@ module _ (longest : ℕ) (t : Table) (s : List ℕ) (oc : Octets s) (h : Header)
       (one_record longest t (state_of t) (tells-table t) s oc (not_nothing longest t s λ e. let y : ◌≡◌ {A = ℕ} 0 1 = cc in omega arith)))
     where
       go : (o : Out Rec) → read_rec (layout longest) (state_of t) 0 s ≡ o → Agrees longest s o (read_one longest t s) → is_text (within s p.name) ≡ true
-      go (bad n x) e a = let d : Refused n x ≡ Good h (PeerTable p) = sym a ∙ shown in let y : ◌≡◌ {A = ℕ} 0 1 = cc in absurd (omega arith)
+      go (bad n x) e a = let d : refused n x ≡ Good h (PeerTable p) = sym a ∙ shown in let y : ◌≡◌ {A = ℕ} 0 1 = cc in absurd (omega arith)
       go (good r q) e a = read_name r q e
 
 -- ---- what is refused

@@ -8,13 +8,12 @@ use Rattle.form_spec.specs.Fmt.{Out, bad, good}
 use Rattle.form_spec.specs.Found.{fault_number}
 use Rattle.form_spec.specs.Record.{Rec, read_rec}
 use Rattle.page_spec.specs.Layout.{layout}
-use Rattle.record_spec.specs.declared.Shown.{Shown}
-use Rattle.record_spec.specs.declared.Table.{Table}
+use Rattle.record_spec.specs.Shown.{Shown}
+use Rattle.record_spec.specs.Table.{Table, state_of}
 use Rattle.record_spec.specs.Answer.{fault, place}
 use Rattle.record_spec.specs.Agrees.{Agrees}
 use Rattle.record_spec.specs.One.{read_one}
 use Rattle.record_spec.specs.Reads.{place_in, Reads}
-use Rattle.record_spec.specs.Table.{state_of}
 use Rattle.record_laws.proofs.Accepts.{no_octets, tells-table}
 use Rattle.record_laws.proofs.One.{one_record}
 

@@ -17,10 +17,9 @@ use Rattle.form_spec.specs.Record.{header, read_rec}
 use Rattle.form_laws.proofs.Octets.{octets-take}
 use Rattle.octets_spec.specs.Be.{num_at}
 use Rattle.page_spec.specs.Layout.{kind, layout_for, layout}
-use Rattle.page_spec.specs.declared.Kind.{Kind}
-use Rattle.page_spec.specs.declared.Kind.TheVariants as chosen
-use Rattle.record_spec.specs.declared.Shown.TheVariants.{Refused}
-use Rattle.record_spec.specs.declared.Table.{Table}
+use Rattle.page_spec.specs.Chosen.{Chosen}
+use Rattle.page_spec.specs.Chosen as chosen
+use Rattle.record_spec.specs.Table.{Table}
 use Rattle.record_spec.specs.One.{shown_as, whole_record, read_one}
 use Rattle.record_spec.specs.Tells.{Tells}
 use Rattle.record_spec.specs.Agrees.{Agrees}
@@ -30,6 +29,7 @@ use Rattle.record_laws.proofs.TableDump.{table_dump_agrees}
 use Rattle.record_laws.proofs.Behind.{change-agrees, message-agrees}
 use Rattle.record_laws.proofs.Unread.{unread_agrees}
 use Rattle.record_laws.proofs.Tables.{table-agrees, rib-agrees, generic_agrees}
+use Rattle.form_spec.specs.Refusal.{refused}
 
 -- ---- a whole record, by its kind
 
@@ -46,10 +46,10 @@ module _ (longest : ℕ) (s m q : List ℕ) (l : Stands s m q (num_at m 8 4)) (t
   abbrev len : ℕ
   len = num_at m 8 4
 
-  by_kind : (k : Kind) → Says y u k → kind y u ≡ k → Reads longest s m q t y u len l (read_body (plan st (layout_for longest k)) 12 (drop 12 m)) (shown_as longest table m k)
+  by_kind : (k : Chosen) → Says y u k → kind y u ≡ k → Reads longest s m q t y u len l (read_body (plan st (layout_for longest k)) 12 (drop 12 m)) (shown_as longest table m k)
   unfolding shown_as read_body plan layout_for read
-  by_kind (chosen.Refused zero p) h e = absurd (omega (arith, h.0))
-  by_kind (chosen.Refused (suc n) p) h e = let d : p ≡ 12 - (12 - p) = omega (arith, h.1) in ap (Refused (suc n)) d
+  by_kind (refused zero p) h e = absurd (omega (arith, h.0))
+  by_kind (refused (suc n) p) h e = let d : p ≡ 12 - (12 - p) = omega (arith, h.1) in ap (refused (suc n)) d
   by_kind (chosen.Unread micro) h e = unread_agrees longest s m q t y u len l st micro h e
   by_kind (chosen.TableDump size) h e = table_dump_agrees longest s m q t y u len l st size h e
   by_kind chosen.PeerTable h e = table-agrees longest s m q t y u len l st h.0 h.1 e
@@ -132,11 +132,11 @@ one_record longest t st tells s oc h = rw (ne_eqb (length s) 0 (λ e. omega arit
 
     size : (b : Bool) → 12 ≤ length s → ltb (length s - 12) (num_at s 8 4) ≡ b
         → Agrees longest s (refuse_if b 2 0 (bind (read_body (plan st (layout longest (num_at s 4 2) (num_at s 6 2))) 12 (take (num_at s 8 4) (drop 12 s)))
-        (λ b q. good (rec (num_at s 0 4) (num_at s 4 2) (num_at s 6 2) b) (drop (num_at s 8 4) (drop 12 s))))) (choose b (Refused 2 0) (whole_record longest t (take (12 + num_at s 8 4) s)))
+        (λ b q. good (rec (num_at s 0 4) (num_at s 4 2) (num_at s 6 2) b) (drop (num_at s 8 4) (drop 12 s))))) (choose b (refused 2 0) (whole_record longest t (take (12 + num_at s 8 4) s)))
     size true a e = refl
     size false a e = fits a (ltb-false _ _ e)
 
     start : (b : Bool) → ltb (length s) 12 ≡ b
-        → Agrees longest s (read_rec (layout longest) st 0 s) (choose b (Refused 1 0) (choose (ltb (length s - 12) (num_at s 8 4)) (Refused 2 0) (whole_record longest t (take (12 + num_at s 8 4) s))))
+        → Agrees longest s (read_rec (layout longest) st 0 s) (choose b (refused 1 0) (choose (ltb (length s - 12) (num_at s 8 4)) (refused 2 0) (whole_record longest t (take (12 + num_at s 8 4) s))))
     start true e = rw (short_header longest st 0 s e)
     start false e = rw (rec_header longest st 0 s (ltb-false _ _ e)) (size (ltb (length s - 12) (num_at s 8 4)) (ltb-false _ _ e) refl)

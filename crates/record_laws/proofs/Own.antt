@@ -7,16 +7,16 @@ use lib.Dec.{eqb}
 use borrow.Author.Tests.{eqb-true}
 use Rattle.form_spec.specs.Words.{choose, in_range}
 use Rattle.page_spec.specs.Layout.{kind12, kind13, kind16, kind, unlisted}
-use Rattle.page_spec.specs.declared.Kind.{Kind}
-use Rattle.page_spec.specs.declared.Kind.TheVariants.{Refused, Unread}
+use Rattle.page_spec.specs.Chosen.{Chosen, Unread}
 use Rattle.page_laws.proofs.Choice.{by_test, either}
 use Rattle.write_spec.specs.declared.Time.{Time}
 use Rattle.write_spec.specs.declared.Time.TheVariants.{Seconds, Micro}
 use Rattle.write_spec.specs.Times.{micro_size, bgp4mp}
 use Rattle.write_spec.specs.Only.{table_dumps, peer_tables, ribs, generic_ribs, changes, messages, unreads, writer}
+use Rattle.form_spec.specs.Refusal.{refused}
 
 -- `Own` of write_spec/specs/Only, for a kind
-abbrev pub Whose : (writes : ℕ) (other : Kind) → Kind → Type 0
+abbrev pub Whose : (writes : ℕ) (other : Chosen) → Chosen → Type 0
 Whose n other k = (writer k ≡ n) ⊎ (k ≡ other)
 
 -- a test that does not hold
@@ -80,8 +80,8 @@ three : {P : Type 0} (a n m k : ℕ) → (a ≡ n → ⊥) × (a ≡ m → ⊥) 
 three a n m k h e = ⊎_elim (neither a n m h.0 h.1) (failed a k h.2) (either (eqb a n || eqb a m) (eqb a k) e)
 
 module _ (t : Time) (y u : ℕ) (a : y ≡ 12 → ⊥) (b : y ≡ 13 → ⊥) (c : y ≡ 16 → ⊥) (d : y ≡ 17 → ⊥) where
-  abbrev mine : Kind → Type 0
-  mine = Whose (unreads (micro_size t)) (Refused 3 4)
+  abbrev mine : Chosen → Type 0
+  mine = Whose (unreads (micro_size t)) (refused 3 4)
 
   -- by the two tests of an unread Type
   by_unread : (eqb y 11 || eqb y 32 || eqb y 48 ≡ true → mine (Unread 0)) → (eqb y 33 || eqb y 49 ≡ true → mine (Unread 4)) → mine (kind y u)
@@ -92,6 +92,6 @@ module _ (t : Time) (y u : ℕ) (a : y ≡ 12 → ⊥) (b : y ≡ 13 → ⊥) (c
       (by_test mine (eqb y 12) _ _ (failed y 12 a)
       (by_test mine (eqb y 13) _ _ (failed y 13 b) (by_test mine (eqb y 16) _ _ (failed y 16 c) (by_test mine (eqb y 17) _ _ (failed y 17 d) (inr refl))))))
 
-pub own_unread : (t : Time) (y u : ℕ) → (y ≡ 12 → ⊥) → (y ≡ 13 → ⊥) → (y ≡ 16 → ⊥) → (y ≡ 17 → ⊥) → Apart t y → Whose (unreads (micro_size t)) (Refused 3 4) (kind y u)
+pub own_unread : (t : Time) (y u : ℕ) → (y ≡ 12 → ⊥) → (y ≡ 13 → ⊥) → (y ≡ 16 → ⊥) → (y ≡ 17 → ⊥) → Apart t y → Whose (unreads (micro_size t)) (refused 3 4) (kind y u)
 own_unread (Seconds s) y u a b c d z = by_unread (Seconds s) y u a b c d (λ e. inl refl) (neither y 33 49 z.0 z.1)
 own_unread (Micro s m) y u a b c d z = by_unread (Micro s m) y u a b c d (three y 11 32 48 z) (λ e. inl refl)

@@ -23,8 +23,7 @@ use Rattle.page_spec.specs.TableDump.{table_dump, table_dump_rest}
 use Rattle.page_spec.specs.Rib.{tiling, attributes, entry_rest, prefix, rib_head, generic_head}
 use Rattle.page_spec.specs.Peers.{table_head}
 use Rattle.page_spec.specs.Layout.{stamped, kind12, kind13, kind16, kind, layout_for, layout, unlisted}
-use Rattle.page_spec.specs.declared.Kind.{Kind}
-use Rattle.page_spec.specs.declared.Kind.TheVariants.{Refused, Unread, TableDump, PeerTable, Rib, RibGeneric, Change, Message}
+use Rattle.page_spec.specs.Chosen.{Chosen, Unread, TableDump, PeerTable, Rib, RibGeneric, Change, Message}
 use Rattle.page_laws.proofs.Choice.{by_test}
 use Rattle.write_spec.specs.declared.Time.{Time}
 use Rattle.write_spec.specs.declared.Time.TheVariants.{Seconds, Micro}
@@ -32,6 +31,8 @@ use Rattle.write_spec.specs.Times.{micro_size, micros, bgp4mp}
 use Rattle.write_spec.specs.Only.{ribs, changes, messages, unreads, writer, Own, as_octets}
 use Rattle.record_laws.proofs.Own.{bgp_kind}
 use Rattle.write_spec.specs.Givens.{session_values, state_values, bgp_values, route_values, unread_given, table_dump_given, peer_table_given, rib_given, rib_generic_given, change_given, message_given}
+use Rattle.form_spec.specs.Refusal.{refused}
+use Rattle.std.specs.Prelude.{Err}
 
 -- ---- the numbers of any writer
 
@@ -137,17 +138,17 @@ generic_full s f i b p e h =
 -- ---- the seven writers
 
 -- a kind that is neither the writer's own nor unlisted
-not_own : {P : Type 0} (n : ℕ) (other k : Kind) → (writer k ≡ n → ⊥) → (writer k ≡ writer other → ⊥) → (writer k ≡ n) ⊎ (k ≡ other) → P
+not_own : {P : Type 0} (n : ℕ) (other k : Chosen) → (writer k ≡ n → ⊥) → (writer k ≡ writer other → ⊥) → (writer k ≡ n) ⊎ (k ≡ other) → P
 not_own n other k h i (inl e) = absurd (h e)
 not_own n other k h i (inr e) = absurd (i (ap writer e))
 
 module _ (longest : ℕ) (st : St) where
   -- each value of a record of the kind k has its place
-  abbrev At : (k : Kind) → List Value → Tail → Type 0
+  abbrev At : (k : Chosen) → List Value → Tail → Type 0
   At k vs t = AlignedBody (plan st (layout_for longest k)) vs t
 
   -- a Type or Subtype that is refused is the fault, whatever the values are
-  refused_at : (n p : ℕ) (vs : List Value) (t : Tail) → At (Refused (suc n) p) vs t
+  refused_at : (n p : ℕ) (vs : List Value) (t : Tail) → At (refused (suc n) p) vs t
   unfolding plan layout_for Aligned
   refused_at n p vs t e = absurd (omega arith)
 
@@ -163,7 +164,7 @@ module _ (longest : ℕ) (st : St) where
     unfolding plan layout_for kind16
     change_at o n =
         let vs : List Value = state_values o n in
-        let own : Kind → Type 0 = λ k. (writer k ≡ changes) ⊎ (k ≡ unlisted) → Fit (values (as_octets k) vs) → At k (values (as_octets k) vs) nothing in
+        let own : Chosen → Type 0 = λ k. (writer k ≡ changes) ⊎ (k ≡ unlisted) → Fit (values (as_octets k) vs) → At k (values (as_octets k) vs) nothing in
         let none : (w : ℕ) → own (Message (micro_size t) w) = λ w. not_own changes unlisted (Message (micro_size t) w) (λ e. omega arith) (λ e. omega arith) in
         rw (bgp_kind t u)
         (by_test own (eqb u 0) _ _ (λ e d h. behind 2 state_change vs (states-aligned o n) h)
@@ -176,7 +177,7 @@ module _ (longest : ℕ) (st : St) where
     unfolding plan layout_for kind16
     message_at b =
         let vs : List Value = bgp_values b in
-        let own : Kind → Type 0 = λ k. (writer k ≡ messages) ⊎ (k ≡ unlisted) → Fit (values (as_octets k) vs) → At k (values (as_octets k) vs) nothing in
+        let own : Chosen → Type 0 = λ k. (writer k ≡ messages) ⊎ (k ≡ unlisted) → Fit (values (as_octets k) vs) → At k (values (as_octets k) vs) nothing in
         let none : (w : ℕ) → own (Change (micro_size t) w) = λ w. not_own messages unlisted (Change (micro_size t) w) (λ e. omega arith) (λ e. omega arith) in
         rw (bgp_kind t u)
         (by_test own (eqb u 0) _ _ (λ e. none 2)
@@ -200,7 +201,7 @@ module _ (longest : ℕ) (st : St) where
     pub placed_table_dump : (u ≡ 1 → (length prefix ≡ 4) × (length address ≡ 4)) → (u ≡ 2 → (length prefix ≡ 16) × (length address ≡ 16)) → Fitting route → Placed (layout longest) st route
     unfolding layout kind kind12 plan layout_for choose
     placed_table_dump x y h =
-        let at : Kind → Type 0 = λ k. At k route.values nothing in
+        let at : Chosen → Type 0 = λ k. At k route.values nothing in
         let full : (size : ℕ) → (length prefix ≡ size) × (length address ≡ size) → at (TableDump size) = λ n e. full-aligned _ route.values (route_full n v s prefix b c o address p a e h.fit) in
         placed (layout longest) st route h
         (by_test at (eqb u 1) _ _ (λ e. full 4 (x (eqb-true u 1 e))) (by_test at (eqb u 2) _ _ (λ e. full 16 (y (eqb-true u 2 e))) (refused_at 3 6 _ nothing)))
@@ -224,7 +225,7 @@ module _ (longest : ℕ) (st : St) where
   unfolding layout kind kind13 layout_for choose
   placed_rib t u s b prefix n raw d e m h =
       let g : Given = rib_given t u s b prefix n raw in
-      let own : Kind → Type 0 = λ k. (writer k ≡ ribs) ⊎ (k ≡ unlisted) → At k g.values (items n raw) in
+      let own : Chosen → Type 0 = λ k. (writer k ≡ ribs) ⊎ (k ≡ unlisted) → At k g.values (items n raw) in
       let full : (most : ℕ) → most ≤ 128 → own (Rib most) = λ most l d. entries_at (rib_head most (end 0)) entry_rest g.values n raw (rib-full most s b prefix l e h.fit) m in
       placed (layout longest) st g h
       (by_test own (eqb u 1) _ _ (λ e. not_own ribs unlisted PeerTable (λ e. omega arith) (λ e. omega arith))
@@ -240,10 +241,10 @@ module _ (longest : ℕ) (st : St) where
       placed (layout longest) st g h (entries_at (generic_head (end 0)) entry_rest g.values n raw (generic_full s f i b prefix e h.fit) m)
 
   -- unread contents behind microseconds, or not
-  unread_at : (t : Time) (r : List ℕ) (k : Kind) → Fit (micros t) → writer k ≡ unreads (micro_size t) → At k (micros t) (carried r)
+  unread_at : (t : Time) (r : List ℕ) (k : Chosen) → Fit (micros t) → writer k ≡ unreads (micro_size t) → At k (micros t) (carried r)
   unfolding plan layout_for
   unread_at t r (Unread micro) h e = let m : micro ≡ micro_size t = omega arith in rw m (stamped-full t h)
-  unread_at t r (Refused n p) h e = absurd (omega arith)
+  unread_at t r (Err why) h e = absurd (omega arith)
   unread_at t r (TableDump size) h e = absurd (omega arith)
   unread_at t r PeerTable h e = absurd (omega arith)
   unread_at t r (Rib bits) h e = absurd (omega arith)
@@ -251,7 +252,7 @@ module _ (longest : ℕ) (st : St) where
   unread_at t r (Change micro w) h e = absurd (omega arith)
   unread_at t r (Message micro w) h e = absurd (omega arith)
 
-  pub placed_unread : (t : Time) (y u : ℕ) (r : List ℕ) → let g = unread_given t y u r in Own (unreads (micro_size t)) (Refused 3 4) g → Fitting g → Placed (layout longest) st g
+  pub placed_unread : (t : Time) (y u : ℕ) (r : List ℕ) → let g = unread_given t y u r in Own (unreads (micro_size t)) (refused 3 4) g → Fitting g → Placed (layout longest) st g
   unfolding layout
   placed_unread t y u r (inl e) h = placed (layout longest) st _ h (unread_at t r (kind y u) h.fit e)
   placed_unread t y u r (inr e) h = placed (layout longest) st _ h (rw e (refused_at 2 4 (micros t) (carried r)))

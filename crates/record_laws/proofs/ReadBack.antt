@@ -6,10 +6,8 @@ use native.Mathlib.Omega.{arith}
 use Rattle.form_spec.specs.Octets.{Octets}
 use Rattle.form_spec.specs.Shape.{no_table}
 use Rattle.form_spec.specs.Put.{Given}
-use Rattle.page_spec.specs.declared.Kind.TheVariants.{Refused}
-use Rattle.record_spec.specs.declared.Table.{Table}
-use Rattle.record_spec.specs.Table.{state_of}
-use Rattle.room_spec.specs.declared.Written.TheVariants as room
+use Rattle.record_spec.specs.Table.{Table, state_of}
+use Rattle.room_spec.specs.Written as room
 use Rattle.write_spec.specs.declared.Time.{Time}
 use Rattle.write_spec.specs.Times.{micro_size}
 use Rattle.write_spec.specs.Only.{table_dumps, peer_tables, ribs, generic_ribs, changes, messages, unreads, only, only_sub, only_type}
@@ -20,16 +18,17 @@ use Rattle.record_laws.proofs.Only.{own_refusal_free}
 use Rattle.record_laws.proofs.Written.{Fair, read_back}
 pub use Rattle.record_laws.proofs.Written.{ReadBack}
 use Rattle.record_laws.proofs.Fair.{fair_table_dump, fair_peer_table, fair_rib, fair_generic, fair_change, fair_message, fair_unread}
+use Rattle.form_spec.specs.Refusal.{refused}
 
 -- a writer's buffer was `out`; it answers that it wrote k octets, and its buffer is `held` now. The reader is told of the table t.
 -- What a writer does not list it refuses with the number suc a and the place p
 module _ (longest : ℕ) (t : Table) (out held : List ℕ) (k : ℕ) (oc : Octets out) where
   -- a writer that is told of the same table
-  told_back : (n a p : ℕ) (g : Given) → Fair n g → Writes (only n (Refused (suc a) p) longest) (state_of t) g out (room.Octets k) held → ReadBack longest t held k n g
+  told_back : (n a p : ℕ) (g : Given) → Fair n g → Writes (only n (refused (suc a) p) longest) (state_of t) g out (room.Octets k) held → ReadBack longest t held k n g
   told_back n a p g fair w = read_back longest t (state_of t) (tells-table t) n a p g fair (state_of t) (λ e. e) out held k oc w
 
   -- a writer that is told of none, since its records ask for none
-  free_back : (n a p : ℕ) (g : Given) → Fair n g → (n ≡ ribs → ⊥) → (n ≡ generic_ribs → ⊥) → Writes (only n (Refused (suc a) p) longest) no_table g out (room.Octets k) held
+  free_back : (n a p : ℕ) (g : Given) → Fair n g → (n ≡ ribs → ⊥) → (n ≡ generic_ribs → ⊥) → Writes (only n (refused (suc a) p) longest) no_table g out (room.Octets k) held
       → ReadBack longest t held k n g
   free_back n a p g fair h i w = read_back longest t (state_of t) (tells-table t) n a p g fair no_table (own_refusal_free n a p longest (state_of t) g h i) out held k oc w
 

@@ -14,13 +14,13 @@ use Rattle.form_laws.proofs.Fmt.{Right}
 use Rattle.form_laws.proofs.Record.{length-write, sound_rec}
 use Rattle.form_laws.proofs.Given.{restores}
 use Rattle.page_spec.specs.Layout.{layout, kind}
-use Rattle.page_spec.specs.declared.Kind.{Kind}
-use Rattle.record_spec.specs.declared.Shown.{Shown}
-use Rattle.record_spec.specs.declared.Table.{Table}
+use Rattle.page_spec.specs.Chosen.{Chosen}
+use Rattle.record_spec.specs.Shown.{Shown}
+use Rattle.record_spec.specs.Table.{Table}
 use Rattle.record_spec.specs.Answer.{fault, place}
 use Rattle.record_spec.specs.One.{read_one}
 use Rattle.write_spec.specs.Only.{ribs, generic_ribs, writer, only}
-use Rattle.room_spec.specs.declared.Written.TheVariants as room
+use Rattle.room_spec.specs.Written as room
 use Rattle.room_laws.proofs.Room.{fits}
 use Rattle.write_spec.specs.Verdict.{writer_answer, writer_leaves}
 use Rattle.record_spec.specs.Tells.{Tells}
@@ -57,11 +57,11 @@ module _ (longest : ℕ) (t : Table) (st : St) (tells : Tells t st) (s : List �
   restores_bytes = restored longest st s (read_rec (layout longest) st 0 s) (sound_rec (layout longest) st 0 s oc) x (one_record longest t st tells s oc some) sound
 
   -- so does its writer, into a buffer that has the room
-  pub record Back (other : Kind) (su : St) (out : List ℕ) : Type 0 where
+  pub record Back (other : Chosen) (su : St) (out : List ℕ) : Type 0 where
     pub answer : writer_answer (only (writer_of x) other longest) su (again s x) out ≡ room.Octets (place x)
     pub left : writer_leaves (only (writer_of x) other longest) su (again s x) out ≡ take (place x) s ++ drop (place x) out
 
-  back : (su : St) → record_refusal (layout longest) su (again s x) ≡ 0 → (other : Kind) (out : List ℕ) → place x ≤ length out → Back other su out
+  back : (su : St) → record_refusal (layout longest) su (again s x) ≡ 0 → (other : Chosen) (out : List ℕ) → place x ≤ length out → Back other su out
   back su e other out h =
       let z : only (writer_of x) other longest (again s x).type (again s x).sub ≡ layout longest (again s x).type (again s x).sub =
       only_own (writer_of x) other longest (again s x).type (again s x).sub restores_bytes.whose in
@@ -71,11 +71,11 @@ module _ (longest : ℕ) (t : Table) (st : St) (tells : Tells t st) (s : List �
       let z = fits (record_refusal (only (writer_of x) other longest) su (again s x)) 0 (octets (again s x)) out d (omega arith) in
       record { answer = sym z.0 ∙ ap room.Octets k; left = sym z.1 ∙ rw (k, restores_bytes.bytes) }
 
-  pub writes_back : (other : Kind) (out : List ℕ) → place x ≤ length out → Back other st out
+  pub writes_back : (other : Chosen) (out : List ℕ) → place x ≤ length out → Back other st out
   writes_back other out h = back st restores_bytes.refused other out h
 
   -- no table is needed but for a RIB record
-  pub writes_back_free : (writer_of x ≡ ribs → ⊥) → (writer_of x ≡ generic_ribs → ⊥) → (other : Kind) (out : List ℕ) → place x ≤ length out → Back other no_table out
+  pub writes_back_free : (writer_of x ≡ ribs → ⊥) → (writer_of x ≡ generic_ribs → ⊥) → (other : Chosen) (out : List ℕ) → place x ≤ length out → Back other no_table out
   writes_back_free r i other out h =
       let e = restores_bytes.whose in
       back no_table (sym (refusal_free longest st (again s x) (λ d. r (e ∙ d)) (λ d. i (e ∙ d))) ∙ restores_bytes.refused) other out h

@@ -19,15 +19,15 @@ use Rattle.form_laws.proofs.Then.{flat}
 use Rattle.form_laws.proofs.Whole.{outcome_body, whole_body, outcome_free, pass_free}
 use Rattle.form_laws.proofs.Many.{flat_body, whole_many}
 use Rattle.page_spec.specs.Layout.{layout, layout_for, kind}
-use Rattle.page_spec.specs.declared.Kind.{Kind}
+use Rattle.page_spec.specs.Chosen.{Chosen}
 use Rattle.record_spec.specs.declared.Header.{Header}
-use Rattle.record_spec.specs.declared.Shown.{Shown}
-use Rattle.record_spec.specs.declared.Shown.TheVariants.{Refused}
+use Rattle.record_spec.specs.Shown.{Shown}
 use Rattle.record_spec.specs.Answer.{fault, place, header_of}
 use Rattle.write_spec.specs.Only.{writer}
 use Rattle.record_spec.specs.Again.{again}
 use Rattle.record_spec.specs.Agrees.{writer_of, Typed, Same, Agrees}
 use Rattle.record_laws.proofs.Parts.{rest_here}
+use Rattle.form_spec.specs.Refusal.{refused}
 
 abbrev pub head : (timestamp type sub length microseconds : ℕ) → Header
 head t y u l n = record { timestamp = t; ty = y; subtype = u; length = l; microseconds = n }
@@ -43,7 +43,7 @@ pub record Stands (s m q : List ℕ) (len : ℕ) : Type 0 where
 
 module _ (longest : ℕ) (s m q : List ℕ) (t y u len : ℕ) (l : Stands s m q len) where
   -- a message whose octets are those of b
-  pub same : (k : Kind) → kind y u ≡ k → (b : Body) → spell b ≡ drop 12 m → (n : ℕ) (x : Shown) → fault x ≡ 0 → place x ≡ 12 + len → header_of x ≡ head t y u len n
+  pub same : (k : Chosen) → kind y u ≡ k → (b : Body) → spell b ≡ drop 12 m → (n : ℕ) (x : Shown) → fault x ≡ 0 → place x ≡ 12 + len → header_of x ≡ head t y u len n
       → n ≡ micros_in (layout_for longest k) b → writer_of x ≡ writer k → Typed s x → Gives (again s x) (rec t y u b) → Same longest s (rec t y u b) x
   unfolding time_of layout
   same k kd b e n x f p h d w v g =
@@ -68,11 +68,11 @@ module _ (longest : ℕ) (s m q : List ℕ) (t y u len : ℕ) (l : Stands s m q 
 
   -- fields alone
   pub fields_agree : (f : Fmt) (to : List Seen → Shown) → ((cs : List (List ℕ)) → Fits f cs → join cs ≡ drop 12 m → Same longest s (rec t y u (plain cs)) (to (seen f 12 cs)))
-      → Reads (read_body (just f) 12 (drop 12 m)) (whole to Refused f m 12)
+      → Reads (read_body (just f) 12 (drop 12 m)) (whole to refused f m 12)
   unfolding outcome_body BodyFits spell
-  fields_agree f to h = rw (whole_body to Refused f m 12 room) (go (read_body (just f) 12 (drop 12 m)) (sound-body (just f) 12 (drop 12 m) (octets-drop 12 m l.octets)))
+  fields_agree f to h = rw (whole_body to refused f m 12 room) (go (read_body (just f) 12 (drop 12 m)) (sound-body (just f) 12 (drop 12 m) (octets-drop 12 m l.octets)))
     where
-      go : (o : Out Body) → RightBody (just f) (drop 12 m) o → Reads o (outcome_body to Refused f 12 o)
+      go : (o : Out Body) → RightBody (just f) (drop 12 m) o → Reads o (outcome_body to refused f 12 o)
       go (bad n p) r = refl
       go (good (plain cs) z) r = h cs r.0 r.1
       go (good (loose cs a) z) r = absurd r.0
@@ -81,11 +81,11 @@ module _ (longest : ℕ) (s m q : List ℕ) (t y u len : ℕ) (l : Stands s m q 
   -- fields, and then anything
   pub free_agree : (f : Fmt) (to : List Seen → ℕ → Shown)
       → ((cs : List (List ℕ)) (c : List ℕ) → Fits f cs → join cs ++ c ≡ drop 12 m → Same longest s (rec t y u (loose cs c)) (to (seen f 12 cs) (12 + length (join cs))))
-      → Reads (read_body (free f) 12 (drop 12 m)) (pass (λ fs a p. to fs a) Refused f m 12)
+      → Reads (read_body (free f) 12 (drop 12 m)) (pass (λ fs a p. to fs a) refused f m 12)
   unfolding outcome_free BodyFits spell
-  free_agree f to h = rw (pass_free to Refused f m 12 room) (go (read_body (free f) 12 (drop 12 m)) (sound-body (free f) 12 (drop 12 m) (octets-drop 12 m l.octets)))
+  free_agree f to h = rw (pass_free to refused f m 12 room) (go (read_body (free f) 12 (drop 12 m)) (sound-body (free f) 12 (drop 12 m) (octets-drop 12 m l.octets)))
     where
-      go : (o : Out Body) → RightBody (free f) (drop 12 m) o → Reads o (outcome_free to Refused f 12 o)
+      go : (o : Out Body) → RightBody (free f) (drop 12 m) o → Reads o (outcome_free to refused f 12 o)
       go (bad n p) r = refl
       go (good (plain cs) z) r = absurd r.0
       go (good (loose cs a) z) r = h cs a r.0.0 r.1
@@ -95,12 +95,12 @@ module _ (longest : ℕ) (s m q : List ℕ) (t y u len : ℕ) (l : Stands s m q 
   pub many_agree : (x : ℕ) (f g : Fmt) (to : List Seen → Shown)
       → ((cs : List (List ℕ)) (its : List (List (List ℕ))) → Fits f cs → length its < 65536 → join cs ++ (to_be 2 (length its) ++ joins its) ≡ drop 12 m
       → Same longest s (rec t y u (listed cs its)) (to (seen (f ⨾ counted x g) 12 (cs ++ (to_be 2 (length its) ∷ flat its)))))
-      → Reads (read_body (many f g) 12 (drop 12 m)) (whole to Refused (f ⨾ counted x g) m 12)
+      → Reads (read_body (many f g) 12 (drop 12 m)) (whole to refused (f ⨾ counted x g) m 12)
   unfolding outcome_body BodyFits spell
   many_agree x f g to h =
-      rw (whole_many to Refused x f g m 12 room (octets-drop 12 m l.octets)) (go (read_body (many f g) 12 (drop 12 m)) (sound-body (many f g) 12 (drop 12 m) (octets-drop 12 m l.octets)))
+      rw (whole_many to refused x f g m 12 room (octets-drop 12 m l.octets)) (go (read_body (many f g) 12 (drop 12 m)) (sound-body (many f g) 12 (drop 12 m) (octets-drop 12 m l.octets)))
     where
-      go : (o : Out Body) → RightBody (many f g) (drop 12 m) o → Reads o (outcome_body to Refused (f ⨾ counted x g) 12 (flat_body o))
+      go : (o : Out Body) → RightBody (many f g) (drop 12 m) o → Reads o (outcome_body to refused (f ⨾ counted x g) 12 (flat_body o))
       go (bad n p) r = refl
       go (good (plain cs) z) r = absurd r.0
       go (good (loose cs a) z) r = absurd r.0

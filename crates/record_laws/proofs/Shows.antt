@@ -16,8 +16,8 @@ use Rattle.form_laws.proofs.Fmt.{fits-octets}
 use Rattle.form_laws.proofs.Record.{length-write, complete_rec}
 use Rattle.form_laws.proofs.Given.{shows}
 use Rattle.page_spec.specs.Layout.{layout, kind}
-use Rattle.page_spec.specs.declared.Kind.{Kind}
-use Rattle.record_spec.specs.declared.Table.{Table}
+use Rattle.page_spec.specs.Chosen.{Chosen}
+use Rattle.record_spec.specs.Table.{Table}
 use Rattle.record_spec.specs.Answer.{place}
 use Rattle.record_spec.specs.One.{read_one}
 use Rattle.write_spec.specs.Only.{writer, only}
@@ -66,7 +66,7 @@ pub record ShownBack (longest : ℕ) (g : Given) (s : List ℕ) (t : Table) : Ty
   pub same : Same longest s rec (read_one longest t s)
   pub ends : place (read_one longest t s) ≡ length (octets g)
 
-pub shows-fields : (longest : ℕ) (t : Table) (st : St) → Tells t st → (n : ℕ) (other : Kind) (g : Given) → n ≡ writer (kind g.type g.sub) → record_refusal (only n other longest) st g ≡ 0
+pub shows-fields : (longest : ℕ) (t : Table) (st : St) → Tells t st → (n : ℕ) (other : Chosen) (g : Given) → n ≡ writer (kind g.type g.sub) → record_refusal (only n other longest) st g ≡ 0
     → OctetsIn g.values → Shaped (plan st (layout longest g.type g.sub)) g.tail → (q : List ℕ) → Octets q → ShownBack longest g (octets g ++ q) t
 shows-fields longest t st tells n other g w e o h q oq =
     let own = only_own n other longest g.type g.sub w in

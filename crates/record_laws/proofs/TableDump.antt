@@ -13,12 +13,12 @@ use Rattle.page_spec.specs.Names.{microseconds}
 use Rattle.page_spec.specs.Rib.{attributes, tiling}
 use Rattle.page_spec.specs.TableDump.{table_dump, table_dump_rest}
 use Rattle.page_spec.specs.Layout.{kind, layout_for}
-use Rattle.page_spec.specs.declared.Kind.TheVariants.{TableDump}
+use Rattle.page_spec.specs.Chosen.{TableDump}
 use Rattle.record_spec.specs.Fields as show
-use Rattle.record_spec.specs.declared.Shown.TheVariants.{Refused}
 use Rattle.record_spec.specs.Again.{again}
 use Rattle.record_laws.proofs.Parts.{Parts, by_parts, spells, below}
 use Rattle.record_laws.proofs.Same.{head, rec, Stands, Reads, same, fields_agree}
+use Rattle.form_spec.specs.Refusal.{refused}
 
 module _ (s : List ℕ) (t y u len : ℕ) where
   abbrev Shows : List (List ℕ) → List Seen → Type 0
@@ -41,7 +41,7 @@ module _ (s : List ℕ) (t y u len : ℕ) where
 
 module _ (longest : ℕ) (s m q : List ℕ) (t y u len : ℕ) (l : Stands s m q len) where
   pub table_dump_agrees : (st : St) (size : ℕ) → y ≡ 12 → kind y u ≡ TableDump size
-      → Reads longest s m q t y u len l (read_body (plan st (layout_for longest (TableDump size))) 12 (drop 12 m)) (whole (show.table_dump (head t y u len 0)) Refused (table_dump size) m 12)
+      → Reads longest s m q t y u len l (read_body (plan st (layout_for longest (TableDump size))) 12 (drop 12 m)) (whole (show.table_dump (head t y u len 0)) refused (table_dump size) m 12)
   unfolding plan layout_for micros_in spell
   table_dump_agrees st size e kd =
       fields_agree longest s m q t y u len l (table_dump size) (show.table_dump (head t y u len 0))

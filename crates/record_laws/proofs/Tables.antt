@@ -21,14 +21,11 @@ use Rattle.page_spec.specs.Names.{sequence, family, safi, peer_count, entry_coun
 use Rattle.page_spec.specs.Rib.{prefix, rib_head, generic_head, entry, entry_list, rib, rib_generic}
 use Rattle.page_spec.specs.Peers.{table_head, peer, peer_list, peer_table}
 use Rattle.page_spec.specs.Layout.{kind, layout_for}
-use Rattle.page_spec.specs.declared.Kind.{Kind}
-use Rattle.page_spec.specs.declared.Kind.TheVariants.{PeerTable, Rib, RibGeneric}
+use Rattle.page_spec.specs.Chosen.{Chosen, PeerTable, Rib, RibGeneric}
 use Rattle.page_laws.proofs.Same.{rib_then, generic_then, table_then}
 use Rattle.record_spec.specs.Fields as show
-use Rattle.record_spec.specs.declared.Shown.{Shown}
-use Rattle.record_spec.specs.declared.Shown.TheVariants.{Refused}
-use Rattle.record_spec.specs.declared.Table.{Table}
-use Rattle.record_spec.specs.declared.Table.TheVariants.{Absent, Holds}
+use Rattle.record_spec.specs.Shown.{Shown}
+use Rattle.record_spec.specs.Table.{Table, Absent, Holds}
 use Rattle.record_spec.specs.Answer.{fault, place, header_of}
 use Rattle.record_spec.specs.One.{tabled}
 use Rattle.write_spec.specs.Only.{writer}
@@ -37,6 +34,7 @@ use Rattle.record_spec.specs.Again.{again}
 use Rattle.record_spec.specs.Agrees.{writer_of, Typed}
 use Rattle.record_laws.proofs.Parts.{Parts, by_parts, parts-choose, spells, below}
 use Rattle.record_laws.proofs.Same.{head, rec, Stands, Reads, same, rest_is, many_agree}
+use Rattle.form_spec.specs.Refusal.{refused}
 
 note_then : (x p z a n : ℕ) (fs gs : List Seen) → note x p z a n (fs ++ gs) ≡ note x p z a n fs ++ gs
 note_then zero p z a n fs gs = refl
@@ -69,10 +67,10 @@ module _ (longest : ℕ) (s m q : List ℕ) (t y u len : ℕ) (l : Stands s m q 
         length its < 65536 → join cs ++ (to_be 2 (length its) ++ joins its) ≡ drop 12 m
         → Gives (again s (to (fs ++ seen (counted x g) (12 + length (join cs)) (to_be 2 (length its) ∷ flat its)))) (rec t y u (listed cs its))
 
-    listed_agrees : (f : Fmt) (k : Kind) → kind y u ≡ k → ((cs : List (List ℕ)) (its : List (List (List ℕ))) → 0 ≡ micros_in (layout_for longest k) (listed cs its))
+    listed_agrees : (f : Fmt) (k : Chosen) → kind y u ≡ k → ((cs : List (List ℕ)) (its : List (List (List ℕ))) → 0 ≡ micros_in (layout_for longest k) (listed cs its))
         → ((fs : List Seen) → (fault (to fs) ≡ 0) × (place (to fs) ≡ 12 + len) × (header_of (to fs) ≡ head t y u len 0) × (writer_of (to fs) ≡ writer k) × Typed s (to fs))
         → ((its : List (List (List ℕ))) → Parts s f 12 (Shows its))
-        → Reads longest s m q t y u len l (read_body (many f g) 12 (drop 12 m)) (whole to Refused (f ⨾ counted x g) m 12)
+        → Reads longest s m q t y u len l (read_body (many f g) 12 (drop 12 m)) (whole to refused (f ⨾ counted x g) m 12)
     unfolding spell
     listed_agrees f k kd z shown parts =
         many_agree longest s m q t y u len l x f g to
@@ -96,7 +94,7 @@ module _ (longest : ℕ) (s m q : List ℕ) (t y u len : ℕ) (l : Stands s m q 
       }
 
   pub table-agrees : (st : St) → y ≡ 13 → u ≡ 1 → kind y u ≡ PeerTable
-      → Reads longest s m q t y u len l (read_body (plan st (layout_for longest PeerTable)) 12 (drop 12 m)) (whole (show.peer_table (head t y u len 0) m) Refused peer_table m 12)
+      → Reads longest s m q t y u len l (read_body (plan st (layout_for longest PeerTable)) 12 (drop 12 m)) (whole (show.peer_table (head t y u len 0) m) refused peer_table m 12)
   unfolding plan layout_for micros_in peer_list
   table-agrees st e d kd =
       rw table_then
@@ -141,7 +139,7 @@ module _ (longest : ℕ) (s m q : List ℕ) (t y u len : ℕ) (l : Stands s m q 
 
   pub rib-agrees : (table : Table) (st : St) → Tells table st → (bits : ℕ) → y ≡ 13 → kind y u ≡ Rib bits
       → Reads longest s m q t y u len l (read_body (plan st (layout_for longest (Rib bits))) 12 (drop 12 m))
-      (tabled table λ peers. whole (show.rib (head t y u len 0) m) Refused (rib bits peers) m 12)
+      (tabled table λ peers. whole (show.rib (head t y u len 0) m) refused (rib bits peers) m 12)
   unfolding plan layout_for micros_in read_body read tabled entry_list entry
   rib-agrees Absent no_table h bits e kd = refl
   rib-agrees (Holds n) (with_peers ns) h bits e kd =
@@ -152,7 +150,7 @@ module _ (longest : ℕ) (s m q : List ℕ) (t y u len : ℕ) (l : Stands s m q 
 
   pub generic_agrees : (table : Table) (st : St) → Tells table st → y ≡ 13 → u ≡ 6 → kind y u ≡ RibGeneric
       → Reads longest s m q t y u len l (read_body (plan st (layout_for longest RibGeneric)) 12 (drop 12 m))
-      (tabled table λ peers. whole (show.rib_generic (head t y u len 0) m) Refused (rib_generic peers) m 12)
+      (tabled table λ peers. whole (show.rib_generic (head t y u len 0) m) refused (rib_generic peers) m 12)
   unfolding plan layout_for micros_in read_body read tabled entry_list entry
   generic_agrees Absent no_table h e d kd = refl
   generic_agrees (Holds n) (with_peers ns) h e d kd =

@@ -9,11 +9,11 @@ use Rattle.form_spec.specs.Shape.{St, no_table, with_peers, plan}
 use Rattle.form_spec.specs.Put.{Value, Tail, nothing, carried, items, refusal, body_refusal}
 use Rattle.form_spec.specs.Gives.{Shaped}
 use Rattle.page_spec.specs.Layout.{layout_for}
-use Rattle.page_spec.specs.declared.Kind.{Kind}
-use Rattle.page_spec.specs.declared.Kind.TheVariants.{Refused, Unread, TableDump, PeerTable, Rib, RibGeneric, Change, Message}
+use Rattle.page_spec.specs.Chosen.{Chosen, Unread, TableDump, PeerTable, Rib, RibGeneric, Change, Message}
 use Rattle.write_spec.specs.Only.{writer}
 use Rattle.record_laws.specs.Forms.{TailFor}
 use Rattle.page_laws.proofs.Choice.{Says}
+use Rattle.form_spec.specs.Refusal.{refused}
 
 module _ (n : ℕ) where
   no_tail : (t : Tail) → (6 < n → ⊥) → (1 < n → n < 5 → ⊥) → TailFor n t → t ≡ nothing
@@ -35,11 +35,11 @@ module _ (n : ℕ) where
   counted (carried r) a b h = absurd (omega (arith, h.1))
   counted (items k raw) a b h = (k, raw, refl, h.0)
 
-pub tail-shaped : (longest : ℕ) (st : St) (y u : ℕ) (k : Kind) → Says y u k → (vs : List Value) (t : Tail) → body_refusal (plan st (layout_for longest k)) vs t ≡ 0 → TailFor (writer k) t
+pub tail-shaped : (longest : ℕ) (st : St) (y u : ℕ) (k : Chosen) → Says y u k → (vs : List Value) (t : Tail) → body_refusal (plan st (layout_for longest k)) vs t ≡ 0 → TailFor (writer k) t
     → Shaped (plan st (layout_for longest k)) t
 unfolding plan layout_for body_refusal refusal
-tail-shaped longest st y u (Refused zero p) s vs t e h = absurd (omega (arith, s.0))
-tail-shaped longest st y u (Refused (suc n) p) s vs t e h = absurd (omega arith)
+tail-shaped longest st y u (refused zero p) s vs t e h = absurd (omega (arith, s.0))
+tail-shaped longest st y u (refused (suc n) p) s vs t e h = absurd (omega arith)
 tail-shaped longest st y u (Unread micro) s vs t e h = contents (7 + micro) t (omega arith) h
 tail-shaped longest st y u (TableDump size) s vs t e h = no_tail 1 t (λ a. omega arith) (λ a b. omega arith) h
 tail-shaped longest st y u PeerTable s vs t e h = counted 2 t (omega arith) (omega arith) h

@@ -16,18 +16,18 @@ use Rattle.form_laws.proofs.Octets.{to_be_at, be_below}
 use Rattle.form_laws.proofs.Pass.{seen}
 use Rattle.page_spec.specs.Names.{microseconds}
 use Rattle.page_spec.specs.Layout.{kind, layout_for, stamped, finer}
-use Rattle.page_spec.specs.declared.Kind.TheVariants as chosen
+use Rattle.page_spec.specs.Chosen as chosen
 use Rattle.record_spec.specs.Fields.{rest_from}
-use Rattle.record_spec.specs.declared.Shown.{Shown}
-use Rattle.record_spec.specs.declared.Shown.TheVariants.{Refused, Good}
+use Rattle.record_spec.specs.Shown.{Shown, Good}
 use Rattle.record_spec.specs.declared.Body.TheVariants.{Unread}
 use Rattle.record_spec.specs.One.{micro_at, behind}
 use Rattle.record_spec.specs.Agrees.{Same}
 use Rattle.page_laws.proofs.Choice.{Says}
 use Rattle.record_laws.proofs.Behind.{behind_micro}
 use Rattle.record_laws.proofs.Same.{head, rec, Stands, Reads, same, rest_is, free_agree}
+use Rattle.form_spec.specs.Refusal.{refused}
 
-behind_pass : (m : List ℕ) (g : ℕ → ℕ → Shown) → behind (micro_at m 4) g ≡ pass (λ fs a p. g (number_of microseconds fs) a) Refused (stamped 4 (end 0)) m 12
+behind_pass : (m : List ℕ) (g : ℕ → ℕ → Shown) → behind (micro_at m 4) g ≡ pass (λ fs a p. g (number_of microseconds fs) a) refused (stamped 4 (end 0)) m 12
 unfolding stamped num pass
 behind_pass m g = behind_micro m g
 

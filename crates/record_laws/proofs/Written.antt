@@ -9,12 +9,11 @@ use Rattle.form_spec.specs.Put.{Given, octets, record_refusal}
 use Rattle.form_spec.specs.Gives.{OctetsIn, Shaped}
 use Rattle.form_laws.proofs.Octets.{octets-drop}
 use Rattle.page_spec.specs.Layout.{layout, kind}
-use Rattle.page_spec.specs.declared.Kind.TheVariants.{Refused}
-use Rattle.record_spec.specs.declared.Table.{Table}
+use Rattle.record_spec.specs.Table.{Table}
 use Rattle.record_spec.specs.Answer.{fault, place}
 use Rattle.record_spec.specs.One.{read_one}
 use Rattle.write_spec.specs.Only.{writer, only}
-use Rattle.room_spec.specs.declared.Written.TheVariants as room
+use Rattle.room_spec.specs.Written as room
 use Rattle.room_laws.proofs.Room as laws
 use Rattle.write_spec.specs.Verdict.{writer_answer, writer_leaves, Writes}
 use Rattle.record_spec.specs.Tells.{Tells}
@@ -26,6 +25,7 @@ use Rattle.record_laws.proofs.Only.{only_own, refusal_own, body-refusal, own_wri
 use Rattle.record_laws.proofs.Shows.{ShownBack, shows-fields}
 use Rattle.record_laws.proofs.Given.{same_given, formed_again}
 use Rattle.record_laws.proofs.Tails.{tail-shaped}
+use Rattle.form_spec.specs.Refusal.{refused as with_fault}
 
 -- ---- a writer that did not refuse
 
@@ -55,7 +55,7 @@ pub record ReadBack (longest : ℕ) (t : Table) (held : List ℕ) (k n : ℕ) (g
 module _ (longest : ℕ) (t : Table) (st : St) (tells : Tells t st) (n a p : ℕ) (g : Given) (fair : Fair n g) where
   -- a writer of one kind, which lists no other
   abbrev own : ℕ → ℕ → Layout
-  own = only n (Refused (suc a) p) longest
+  own = only n (with_fault (suc a) p) longest
 
   module _ (e : record_refusal own st g ≡ 0) (q : List ℕ) (oq : Octets q) where
     abbrev s : List ℕ
@@ -67,12 +67,12 @@ module _ (longest : ℕ) (t : Table) (st : St) (tells : Tells t st) (n a p : ℕ
     shaped : Shaped (plan st (layout longest g.type g.sub)) g.tail
     unfolding layout
     shaped =
-        let own_layout = only_own n (Refused (suc a) p) longest g.type g.sub n_own in
+        let own_layout = only_own n (with_fault (suc a) p) longest g.type g.sub n_own in
         let z = sym (refusal_own own (layout longest) st g own_layout) ∙ e in
         tail-shaped longest st g.type g.sub (kind g.type g.sub) (kind_says g.type g.sub) g.values g.tail (body-refusal (layout longest) st g z) (rw (← n_own) fair.tail)
 
     back : ShownBack longest g s t
-    back = shows-fields longest t st tells n (Refused (suc a) p) g n_own e fair.octets shaped q oq
+    back = shows-fields longest t st tells n (with_fault (suc a) p) g n_own e fair.octets shaped q oq
 
     whose : writer_of (read_one longest t s) ≡ n
     whose = back.same.whose ∙ rw (← back.given.type, ← back.given.sub) (sym n_own)

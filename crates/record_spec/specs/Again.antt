@@ -1,11 +1,10 @@
 -- What a caller hands to a writer to write a record back that reading showed: the numbers shown, and the parts where they lie.
-use Rattle.std.specs.Prelude.{List, [], ℕ}
+use Rattle.std.specs.Prelude.{List, [], ℕ, Err}
 use Rattle.form_spec.specs.Words.{choose}
 use Rattle.form_spec.specs.Put.{Given, nothing}
 use Rattle.page_spec.specs.Layout.{finer}
 use Rattle.record_spec.specs.declared.Header.{Header}
-use Rattle.record_spec.specs.declared.Shown.{Shown}
-use Rattle.record_spec.specs.declared.Shown.TheVariants.{Nothing, Refused, Good}
+use Rattle.record_spec.specs.Shown.{Shown, Nothing, Good}
 use Rattle.record_spec.specs.declared.Body.{Body}
 use Rattle.record_spec.specs.declared.Body.TheVariants.{Unread, TableDump, PeerTable, Rib, RibGeneric, Change, Message}
 use Rattle.record_spec.specs.Answer.{within}
@@ -37,5 +36,5 @@ again_as s h (Message e b) =
 
 abbrev pub again : List ℕ → Shown → Given
 again s Nothing = blank
-again s (Refused n p) = blank
+again s (Err why) = blank
 again s (Good h b) = again_as s h b

@@ -1,5 +1,5 @@
 -- When what reading one record shows is what the record grammar's reader finds.
-use Rattle.std.specs.Prelude.{◌≡◌, List, ℕ, length, take, drop}
+use Rattle.std.specs.Prelude.{◌≡◌, List, ℕ, length, take, drop, Err}
 use Rattle.form_spec.specs.Octets.{be}
 use Rattle.form_spec.specs.Fmt.{Out, bad, good}
 use Rattle.form_spec.specs.Body.{spell}
@@ -8,14 +8,14 @@ use Rattle.form_spec.specs.Record.{Rec, size, time_of}
 use Rattle.form_spec.specs.Gives.{Gives}
 use Rattle.page_spec.specs.Layout.{layout, kind}
 use Rattle.record_spec.specs.declared.Header.{Header}
-use Rattle.record_spec.specs.declared.Shown.{Shown}
-use Rattle.record_spec.specs.declared.Shown.TheVariants.{Nothing, Refused, Good}
+use Rattle.record_spec.specs.Shown.{Shown, Nothing, Good}
 use Rattle.record_spec.specs.declared.Body.{Body}
 use Rattle.record_spec.specs.declared.Body.TheVariants.{Unread, TableDump, PeerTable, Rib, RibGeneric, Change, Message}
 use Rattle.record_spec.specs.Answer.{fault, place, header_of, time, within}
 use Rattle.write_spec.specs.Times.{micro_size}
 use Rattle.write_spec.specs.Only.{table_dumps, peer_tables, ribs, generic_ribs, changes, messages, unreads, writer}
 use Rattle.record_spec.specs.Again.{clock, again}
+use Rattle.form_spec.specs.Refusal.{refused}
 
 -- whose writer takes it back; 0 is none
 abbrev pub writer_as : Header → Body → ℕ
@@ -29,7 +29,7 @@ writer_as h (Message e b) = messages
 
 abbrev pub writer_of : Shown → ℕ
 writer_of Nothing = 0
-writer_of (Refused n p) = 0
+writer_of (Err why) = 0
 writer_of (Good h b) = writer_as h b
 
 -- a record's header
@@ -49,7 +49,7 @@ TypedBody s (Message e b) = b.kind ≡ be (take 1 (drop 18 (within s b.message))
 
 abbrev pub Typed : List ℕ → Shown → Type 0
 Typed s Nothing = Unit
-Typed s (Refused n p) = Unit
+Typed s (Err why) = Unit
 Typed s (Good h b) = TypedBody s b
 
 -- what is shown of a record: no fault, where it ends, its header and time, its kind, and its very fields
@@ -64,5 +64,5 @@ pub record Same (longest : ℕ) (s : List ℕ) (r : Rec) (x : Shown) : Type 0 wh
 
 -- a fault is shown with its number and place
 abbrev pub Agrees : (longest : ℕ) → List ℕ → Out Rec → Shown → Type 0
-Agrees longest s (bad n p) x = x ≡ Refused n p
+Agrees longest s (bad n p) x = x ≡ refused n p
 Agrees longest s (good r q) x = Same longest s r x

@@ -1,29 +1,26 @@
 -- Document 01's number, place, time and parts for each case of what reading one record shows, and the table in force behind it.
-use Rattle.std.specs.Prelude.{List, ℕ, ◌+◌, ◌*◌, take, drop}
+use Rattle.std.specs.Prelude.{List, ℕ, ◌+◌, ◌*◌, take, drop, Err, Result, Ok}
 use Rattle.std.specs.Borrow.{Bor}
 use Rattle.octets_spec.specs.Lent.{PartOf}
+use Rattle.form_spec.specs.declared.Fault.{Fault}
 use Rattle.record_spec.specs.declared.Part.{Part}
 use Rattle.record_spec.specs.declared.Header.{Header}
-use Rattle.record_spec.specs.declared.Shown.{Shown}
-use Rattle.record_spec.specs.declared.Shown.TheVariants.{Nothing, Refused, Good}
+use Rattle.record_spec.specs.Shown.{Shown, Nothing, Good}
 use Rattle.record_spec.specs.declared.Body.{Body}
 use Rattle.record_spec.specs.declared.Body.TheVariants.{Unread, TableDump, PeerTable, Rib, RibGeneric, Change, Message}
-use Rattle.record_spec.specs.declared.Table.{Table}
-use Rattle.record_spec.specs.declared.Table.TheVariants.{Holds}
+use Rattle.record_spec.specs.Table.{Table, Holds}
 use Rattle.record_spec.specs.declared.Entry.{Entry}
-use Rattle.record_spec.specs.declared.Entry.TheVariants.{At, Bad}
 use Rattle.record_spec.specs.declared.Peer.{Peer}
-use Rattle.record_spec.specs.declared.Peer.TheVariants as one
 
 -- what f says of the body; `else` where no record is shown
 abbrev pub of_body : {A : Type 0} → (else : A) → (Body → A) → Shown → A
 of_body e f Nothing = e
-of_body e f (Refused n p) = e
+of_body e f (Err why) = e
 of_body e f (Good h b) = f b
 
 abbrev pub fault : Shown → ℕ
 fault Nothing = 0
-fault (Refused n p) = n
+fault (Err why) = why.number
 fault (Good h b) = 0
 
 -- zeros where no record is shown
@@ -32,7 +29,7 @@ no_header = record { timestamp = 0; ty = 0; subtype = 0; length = 0; microsecond
 
 abbrev pub header_of : Shown → Header
 header_of Nothing = no_header
-header_of (Refused n p) = no_header
+header_of (Err why) = no_header
 header_of (Good h b) = h
 
 abbrev pub end : Header → ℕ
@@ -41,7 +38,7 @@ end h = 12 + h.length
 -- a fault's place is the first octet of the field that failed, counted from the record's header
 abbrev pub place : Shown → ℕ
 place Nothing = 0
-place (Refused n p) = p
+place (Err why) = why.place
 place (Good h b) = end h
 
 -- in microseconds
@@ -83,29 +80,29 @@ table_behind t (Change s w) = t
 table_behind t (Message s b) = t
 
 -- an entry's attributes
-abbrev pub attributes_in : Entry → Part
-attributes_in (At i t a n) = a
-attributes_in (Bad n p) = no_part
+abbrev pub attributes_in : Result Entry Fault → Part
+attributes_in (Ok e) = e.attributes
+attributes_in (Err why) = no_part
 
 -- a peer's address
-abbrev pub address_in : Peer → Part
-address_in (one.Of k i a n q) = a
-address_in (one.Bad n p) = no_part
+abbrev pub address_in : Result Peer Fault → Part
+address_in (Ok p) = p.address
+address_in (Err why) = no_part
 
 -- ---- an entry, or a peer: its number, and where it ends; a fault's place
 
-abbrev pub entry_fault : Entry → ℕ
-entry_fault (At i t a n) = 0
-entry_fault (Bad n p) = n
+abbrev pub entry_fault : Result Entry Fault → ℕ
+entry_fault (Ok e) = 0
+entry_fault (Err why) = why.number
 
-abbrev pub entry_end : Entry → ℕ
-entry_end (At i t a n) = n
-entry_end (Bad n p) = p
+abbrev pub entry_end : Result Entry Fault → ℕ
+entry_end (Ok e) = e.next
+entry_end (Err why) = why.place
 
-abbrev pub peer_fault : Peer → ℕ
-peer_fault (one.Of k i a n q) = 0
-peer_fault (one.Bad n p) = n
+abbrev pub peer_fault : Result Peer Fault → ℕ
+peer_fault (Ok p) = 0
+peer_fault (Err why) = why.number
 
-abbrev pub peer_end : Peer → ℕ
-peer_end (one.Of k i a n q) = q
-peer_end (one.Bad n p) = p
+abbrev pub peer_end : Result Peer Fault → ℕ
+peer_end (Ok p) = p.next
+peer_end (Err why) = why.place

@@ -1,5 +1,5 @@
 -- What the fields of each layout are in the code's answers: by name, out of the fields that the page's format found.
-use Rattle.std.specs.Prelude.{ℕ, ◌-◌, List, length}
+use Rattle.std.specs.Prelude.{ℕ, ◌-◌, List, length, Result, Ok}
 use Rattle.form_spec.specs.Pass.{Seen, number_of, place_of, size_of, after_of}
 use Rattle.page_spec.specs.Names.{peer_as, local_as, interface, family, peer_address, local_address, old_state, new_state, marker, bgp_length, bgp_type, view, sequence, prefix_octets, prefix_bits, status, originated, attribute_octets, collector, view_name, peer_count, entry_count, safi, peer_index, peer_type, bgp_id}
 use Rattle.record_spec.specs.declared.Part.{Part}
@@ -8,13 +8,11 @@ use Rattle.record_spec.specs.declared.Session.{Session}
 use Rattle.record_spec.specs.declared.Route.{Route}
 use Rattle.record_spec.specs.declared.Peers.{Peers}
 use Rattle.record_spec.specs.declared.Routes.{Routes}
-use Rattle.record_spec.specs.declared.Shown.{Shown}
-use Rattle.record_spec.specs.declared.Shown.TheVariants.{Good}
+use Rattle.record_spec.specs.Shown.{Shown, Good}
 use Rattle.record_spec.specs.declared.Body.TheVariants.{TableDump, PeerTable, Rib, RibGeneric, Change, Message}
 use Rattle.record_spec.specs.declared.Entry.{Entry}
-use Rattle.record_spec.specs.declared.Entry.TheVariants.{At}
 use Rattle.record_spec.specs.declared.Peer.{Peer}
-use Rattle.record_spec.specs.declared.Peer.TheVariants.{Of}
+use Rattle.form_spec.specs.declared.Fault.{Fault}
 
 -- where a field lies
 abbrev pub part_of : ℕ → List Seen → Part
@@ -77,8 +75,9 @@ rib_generic h m fs = Good h (RibGeneric (record { family = number_of family fs; 
 
 -- ---- items: a is where the next one starts
 
-abbrev pub entry : List Seen → (a p : ℕ) → Entry
-entry fs a p = At (number_of peer_index fs) (number_of originated fs) (part_of attribute_octets fs) a
+abbrev pub entry : List Seen → (a p : ℕ) → Result Entry Fault
+entry fs a p = Ok (record { index = number_of peer_index fs; originated = number_of originated fs; attributes = part_of attribute_octets fs; next = a })
 
-abbrev pub peer : List Seen → (a p : ℕ) → Peer
-peer fs a p = Of (number_of peer_type fs) (number_of bgp_id fs) (part_of peer_address fs) (number_of peer_as fs) a
+abbrev pub peer : List Seen → (a p : ℕ) → Result Peer Fault
+peer fs a p =
+    Ok (record { kind = number_of peer_type fs; id = number_of bgp_id fs; address = part_of peer_address fs; as_number = number_of peer_as fs; next = a })

@@ -1,5 +1,5 @@
 -- The items of a peer table or a RIB record: as a caller meets them, going from one to the next, and as they stand in the record.
-use Rattle.std.specs.Prelude.{◌≡◌, List, [], ◌∷◌, ℕ, zero, suc, ◌+◌, length, take, drop, get_or}
+use Rattle.std.specs.Prelude.{◌≡◌, List, [], ◌∷◌, ℕ, zero, suc, ◌+◌, length, take, drop, get_or, Result, Ok}
 use Rattle.form_spec.specs.Fmt.{Out, bad, good, Fmt, read, join}
 use Rattle.form_spec.specs.Body.{joins}
 use Rattle.form_spec.specs.Pass.{pass}
@@ -10,16 +10,16 @@ use Rattle.page_spec.specs.Rib.{entry}
 use Rattle.record_spec.specs.Fields as show
 use Rattle.record_spec.specs.declared.Part.{Part}
 use Rattle.record_spec.specs.declared.Entry.{Entry}
-use Rattle.record_spec.specs.declared.Entry.TheVariants as entries
 use Rattle.record_spec.specs.declared.Peer.{Peer}
-use Rattle.record_spec.specs.declared.Peer.TheVariants as peers
+use Rattle.form_spec.specs.declared.Fault.{Fault}
+use Rattle.form_spec.specs.Refusal.{refused}
 
 -- the peer that starts at `at`; an entry, where the table in force has so many peers
-abbrev pub peer_at : List ℕ → (at : ℕ) → Peer
-peer_at m at = pass show.peer peers.Bad peer m at
+abbrev pub peer_at : List ℕ → (at : ℕ) → Result Peer Fault
+peer_at m at = pass show.peer refused peer m at
 
-abbrev pub entry_at : List ℕ → (at count : ℕ) → Entry
-entry_at m at n = pass show.entry entries.Bad (entry n) m at
+abbrev pub entry_at : List ℕ → (at count : ℕ) → Result Entry Fault
+entry_at m at n = pass show.entry refused (entry n) m at
 
 -- ---- an item as its grammar's reader finds it: a fault's number, or 0, and the fault's place, or where the item ends
 
@@ -56,12 +56,12 @@ abbrev pub field_in : (k at : ℕ) → List (List ℕ) → Part
 field_in k at c = record { at = at + length (join (take k c)); size = length (get_or c k []) }
 
 -- a peer's type, BGP ID, address and AS number
-abbrev pub peer_of : (at : ℕ) → List (List ℕ) → Peer
-peer_of at c = peers.Of (number 0 c) (number 1 c) (field_in 2 at c) (number 3 c) (at + length (join c))
+abbrev pub peer_of : (at : ℕ) → List (List ℕ) → Result Peer Fault
+peer_of at c = Ok (record { kind = number 0 c; id = number 1 c; address = field_in 2 at c; as_number = number 3 c; next = at + length (join c) })
 
 -- an entry's index, originated time and, behind their length, attributes
-abbrev pub entry_of : (at : ℕ) → List (List ℕ) → Entry
-entry_of at c = entries.At (number 0 c) (number 1 c) (field_in 3 at c) (at + length (join c))
+abbrev pub entry_of : (at : ℕ) → List (List ℕ) → Result Entry Fault
+entry_of at c = Ok (record { index = number 0 c; originated = number 1 c; attributes = field_in 3 at c; next = at + length (join c) })
 
 -- going n times from `at` on in m shows just the items its, in order, and ends at `stop`; their octets are the ones there
 pub record Meets {A : Type 0} (m : List ℕ) (one : ℕ → A) (end : A → ℕ) (of : ℕ → List (List ℕ) → A) (n at stop : ℕ) (its : List (List (List ℕ))) : Type 0 where

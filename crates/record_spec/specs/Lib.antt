@@ -1,3 +1,4 @@
+pub mod Shown
 pub mod One
 pub mod Answer
 pub mod Tells

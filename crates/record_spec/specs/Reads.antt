@@ -5,11 +5,10 @@ use Rattle.form_spec.specs.Fmt.{Out, bad, good}
 use Rattle.form_spec.specs.Found.{fault_number}
 use Rattle.form_spec.specs.Record.{Rec, size, read_rec}
 use Rattle.page_spec.specs.Layout.{layout}
-use Rattle.record_spec.specs.declared.Table.{Table}
-use Rattle.record_spec.specs.declared.Shown.{Shown}
+use Rattle.record_spec.specs.Table.{Table, state_of}
+use Rattle.record_spec.specs.Shown.{Shown}
 use Rattle.record_spec.specs.One.{read_one}
 use Rattle.record_spec.specs.Answer.{fault, place}
-use Rattle.record_spec.specs.Table.{state_of}
 
 abbrev pub place_in : Out Rec → ℕ
 place_in (bad n p) = p

@@ -1,8 +1,15 @@
 -- The table in force that a reader or a writer is told: of its peers only their number counts.
 use Rattle.form_spec.specs.Shape.{St, no_table, with_peers}
-use Rattle.std.specs.Prelude.{replicate}
-use Rattle.record_spec.specs.declared.Table.{Table}
-use Rattle.record_spec.specs.declared.Table.TheVariants.{Absent, Holds}
+use Rattle.std.specs.Prelude.{ℕ, replicate, Option, Some, None}
+
+abbrev pub Table : Type 0
+Table = Option ℕ
+
+pattern abbrev pub Absent : Table
+Absent = None
+
+pattern abbrev pub Holds : (peers : ℕ) → Table
+Holds n = Some n
 
 abbrev pub state_of : Table → St
 state_of Absent = no_table

@@ -1,8 +1,7 @@
 -- A table as a reader or writer is told it stands for a table in force: none, or one of so many peers.
 use Rattle.std.specs.Prelude.{◌≡◌, length}
 use Rattle.form_spec.specs.Shape.{St, no_table, with_peers}
-use Rattle.record_spec.specs.declared.Table.{Table}
-use Rattle.record_spec.specs.declared.Table.TheVariants.{Absent, Holds}
+use Rattle.record_spec.specs.Table.{Table, Absent, Holds}
 
 abbrev pub Tells : Table → St → Type 0
 Tells Absent no_table = Unit

@@ -1,5 +1,7 @@
 #![tactic(auto)]
 
+use form_spec::Fault;
+
 // What reading shows. A place is an offset from the record's header; a part is octets that stay where they lie.
 #[derive(Clone, Copy)]
 pub struct Part {
@@ -94,32 +96,27 @@ pub enum Body {
     Message(Session, Bgp),
 }
 
+// A record, unless there are no octets at all; or the fault, placed from the record's header.
+pub type Shown = Result<Option<(Header, Body)>, Fault>;
+
+// One entry of a RIB record. `next` is where the next entry starts.
 #[derive(Clone, Copy)]
-pub enum Shown {
-    // no octets at all
-    Nothing,
-    // a fault's number, and where the field that failed starts
-    Refused(u8, usize),
-    Good(Header, Body),
+pub struct Entry {
+    pub index: u64,
+    pub originated: u64,
+    pub attributes: Part,
+    pub next: usize,
 }
 
-// One entry of a RIB record: peer index, originated time, attributes, and where the next entry starts.
+// One peer of a table. `next` is where the next peer starts.
 #[derive(Clone, Copy)]
-pub enum Entry {
-    At(u64, u64, Part, usize),
-    Bad(u8, usize),
+pub struct Peer {
+    pub kind: u64,
+    pub id: u64,
+    pub address: Part,
+    pub as_number: u64,
+    pub next: usize,
 }
 
-// One peer of a table: type octet, BGP ID, address, AS, and where the next peer starts.
-#[derive(Clone, Copy)]
-pub enum Peer {
-    Of(u64, u64, Part, u64, usize),
-    Bad(u8, usize),
-}
-
-// The table that a reader or a writer is told: none in force, or one of so many peers.
-#[derive(Clone, Copy)]
-pub enum Table {
-    Absent,
-    Holds(u64),
-}
+// The table that a reader or a writer is told, by the number of its peers; none in force.
+pub type Table = Option<u64>;

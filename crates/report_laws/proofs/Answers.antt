@@ -16,7 +16,7 @@ use Rattle.page_spec.specs.Layout.{layout}
 use Rattle.report_spec.specs.declared.Added.{Added}
 use Rattle.report_spec.specs.declared.Notice.{Notice}
 use Rattle.report_spec.specs.declared.Notice.TheVariants.{Change}
-use Rattle.report_spec.specs.declared.Last.TheVariants.{Absent}
+use Rattle.report_spec.specs.Last.{Absent}
 use Rattle.report_spec.specs.Notice.{notice, InStates}
 use Rattle.report_spec.specs.Own.{changes, times, cells, breaks_behind, own}
 use Rattle.report_spec.specs.Sum.{sums, fit}

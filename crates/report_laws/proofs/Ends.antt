@@ -10,8 +10,7 @@ use Rattle.form_laws.proofs.Dump.{shows, splits-append}
 use Rattle.page_spec.specs.Layout.{layout}
 use Rattle.report_spec.specs.declared.Notice.{Notice}
 use Rattle.report_spec.specs.declared.Notice.TheVariants.{Plain, Change, Sequence}
-use Rattle.report_spec.specs.declared.Last.{Last}
-use Rattle.report_spec.specs.declared.Last.TheVariants.{Absent}
+use Rattle.report_spec.specs.Last.{Last, Absent}
 use Rattle.report_spec.specs.Notice.{notice}
 use Rattle.report_spec.specs.Own.{changes, states, cells, joined, last_behind, breaks_behind, broken_first, seam, own}
 use Rattle.report_spec.specs.Sum.{breaks_alone, sums, fit}

@@ -10,8 +10,7 @@ use lib.Seq.{get_or-drop}
 use borrow.Author.Tests.{eq-eqb}
 use Rattle.report_spec.specs.declared.Notice.{Notice}
 use Rattle.report_spec.specs.declared.Notice.TheVariants.{Plain, Change, Sequence}
-use Rattle.report_spec.specs.declared.Last.{Last}
-use Rattle.report_spec.specs.declared.Last.TheVariants.{Absent, Was}
+use Rattle.report_spec.specs.Last.{Last, Absent, Was}
 use Rattle.report_spec.specs.Notice.{InStates}
 use Rattle.report_spec.specs.Own.{changes, times, states, cells, following, broken, last_behind, breaks_behind, own}
 use Rattle.report_spec.specs.Tally.{bumped}

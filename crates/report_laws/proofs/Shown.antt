@@ -21,8 +21,8 @@ use Rattle.page_spec.specs.Names.{old_state, new_state, sequence}
 use Rattle.page_spec.specs.Bgp4mp.{addresses, session, state, state_change}
 use Rattle.page_spec.specs.TableDump.{table_dump}
 use Rattle.page_spec.specs.Layout.{kind, layout_for, layout, stamped}
-use Rattle.page_spec.specs.declared.Kind.{Kind}
-use Rattle.page_spec.specs.declared.Kind.TheVariants as chosen
+use Rattle.page_spec.specs.Chosen.{Chosen}
+use Rattle.page_spec.specs.Chosen as chosen
 use Rattle.page_laws.proofs.Choice.{Bgp, kind_says}
 use Rattle.write_spec.specs.Times.{micro_size, micros, bgp4mp}
 use Rattle.write_spec.specs.Only.{writer}
@@ -33,14 +33,15 @@ use Rattle.record_spec.specs.declared.Header.{Header}
 use Rattle.record_spec.specs.declared.Session.{Session}
 use Rattle.record_spec.specs.declared.Route.{Route}
 use Rattle.record_spec.specs.declared.States.{States}
-use Rattle.record_spec.specs.declared.Shown.{Shown}
-use Rattle.record_spec.specs.declared.Shown.TheVariants.{Nothing, Refused, Good}
+use Rattle.record_spec.specs.Shown.{Shown, Nothing, Good}
 use Rattle.record_spec.specs.declared.Body.TheVariants.{Unread, TableDump, PeerTable, Rib, RibGeneric, Change, Message}
 use Rattle.record_spec.specs.Again.{clock}
 use Rattle.record_spec.specs.Agrees.{writer_of, Same}
 use Rattle.record_laws.proofs.KindBy.{kind_by}
 use Rattle.report_spec.specs.declared.Notice.TheVariants as heed
 use Rattle.report_spec.specs.Notice.{notice_by, notice, notice_of, InStates}
+use Rattle.form_spec.specs.Refusal.{refused}
+use Rattle.std.specs.Prelude.{Err}
 
 -- ---- the states of a state change's fields
 
@@ -88,9 +89,9 @@ stated_change zero w cs f = stated_session w cs f
 stated_change (suc n) w cs f = behind _ _ _ _ refl refl (λ u. stated_session w) cs f
 
 module _ (longest : ℕ) where
-  states_by : (st : St) (k : Kind) (y : form.Body) → form.BodyFits (plan st (layout_for longest k)) y → InStates (notice_by k (layout_for longest k) y)
+  states_by : (st : St) (k : Chosen) (y : form.Body) → form.BodyFits (plan st (layout_for longest k)) y → InStates (notice_by k (layout_for longest k) y)
   unfolding layout_for plan form.BodyFits
-  states_by st (chosen.Refused n p) y h = tt
+  states_by st (Err why) y h = tt
   states_by st (chosen.Unread micro) y h = tt
   states_by st (chosen.TableDump size) y h = tt
   states_by st chosen.PeerTable y h = tt
@@ -139,8 +140,8 @@ module _ (w v p l n m : ℕ) (theirs ours : List ℕ) (old new : ℕ) where
 
 -- ---- notice
 
-plain_by : (k : Kind) (l : Layout) (y : form.Body) (n : ℕ) → n ≡ writer k → (n ≡ 1 → ⊥) → (n ≡ 5 → ⊥) → notice_by k l y ≡ heed.Plain
-plain_by (chosen.Refused n p) l y m e a b = refl
+plain_by : (k : Chosen) (l : Layout) (y : form.Body) (n : ℕ) → n ≡ writer k → (n ≡ 1 → ⊥) → (n ≡ 5 → ⊥) → notice_by k l y ≡ heed.Plain
+plain_by (Err why) l y m e a b = refl
 plain_by (chosen.Unread micro) l y m e a b = refl
 plain_by (chosen.TableDump size) l y m e a b = absurd (a e)
 plain_by chosen.PeerTable l y m e a b = refl
@@ -188,7 +189,7 @@ module _ (longest : ℕ) (s : List ℕ) (st : St) (r : Rec) (valid : Valid (layo
 
   says : (x : Shown) → Says x
   says Nothing h = says_plain Nothing (λ e. omega arith) (λ e. omega arith) h
-  says (Refused n p) h = says_plain (Refused n p) (λ e. omega arith) (λ e. omega arith) h
+  says (Err why) h = says_plain (refused why.number why.place) (λ e. omega arith) (λ e. omega arith) h
   says (Good a (Unread c)) h = says_plain (Good a (Unread c)) (λ e. omega arith) (λ e. omega arith) h
   says (Good a (TableDump f)) h = says_sequence a f h
   says (Good a (PeerTable p)) h = says_plain (Good a (PeerTable p)) (λ e. omega arith) (λ e. omega arith) h

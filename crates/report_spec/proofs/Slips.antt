@@ -9,7 +9,7 @@ use borrow.Author.Tests.{ne_eqb}
 use Rattle.form_spec.specs.Words.{choose}
 use Rattle.form_spec.specs.Dump.{Walk}
 use Rattle.report_spec.specs.declared.Notice.TheVariants.{Plain, Change, Sequence}
-use Rattle.report_spec.specs.declared.Last.TheVariants.{Absent, Was}
+use Rattle.report_spec.specs.Last.{Absent, Was}
 use Rattle.report_spec.specs.Own.{cells, broken, breaks_behind, own}
 use Rattle.report_spec.specs.Sum.{fit}
 use Rattle.report_spec.specs.Answer.{total, answer_of, leaves_of}

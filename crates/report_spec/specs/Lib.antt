@@ -1,3 +1,4 @@
+pub mod Last
 pub mod Notice
 pub mod Own
 pub mod Tally

@@ -1,15 +1,15 @@
 -- What a report heeds in a record: the states of a state change, the sequence of a record of type 12. Once in the record's own fields, once in
 -- what reading shows of it.
-use Rattle.std.specs.Prelude.{List, [], ◌∷◌, ℕ, ◌≤◌}
+use Rattle.std.specs.Prelude.{List, [], ◌∷◌, ℕ, ◌≤◌, Err}
 use Rattle.form_spec.specs.Fmt.{find}
 use Rattle.form_spec.specs.Shape.{Layout, refuse, fields, unread, table, entries, front_of, value}
 use Rattle.form_spec.specs.Body as form
 use Rattle.form_spec.specs.Record.{Rec}
 use Rattle.page_spec.specs.Names.{old_state, new_state, sequence}
 use Rattle.page_spec.specs.Layout.{kind, layout_for}
-use Rattle.page_spec.specs.declared.Kind.{Kind}
-use Rattle.page_spec.specs.declared.Kind.TheVariants as chosen
-use Rattle.record_spec.specs.declared.Shown.{Shown}
+use Rattle.page_spec.specs.Chosen.{Chosen}
+use Rattle.page_spec.specs.Chosen as chosen
+use Rattle.record_spec.specs.Shown.{Shown}
 use Rattle.record_spec.specs.declared.Body.{Body}
 use Rattle.record_spec.specs.declared.Body.TheVariants as shown
 use Rattle.record_spec.specs.Answer.{of_body}
@@ -24,8 +24,8 @@ number_in x (unread f) y = 0
 number_in x (table f g) y = 0
 number_in x (entries f g) y = 0
 
-abbrev pub notice_by : Kind → Layout → form.Body → Notice
-notice_by (chosen.Refused n p) l y = Plain
+abbrev pub notice_by : Chosen → Layout → form.Body → Notice
+notice_by (Err why) l y = Plain
 notice_by (chosen.Unread micro) l y = Plain
 notice_by (chosen.TableDump size) l y = Sequence (number_in sequence l y)
 notice_by chosen.PeerTable l y = Plain

@@ -2,8 +2,7 @@
 use Rattle.std.specs.Prelude.{cond, ◌&&◌, List, [], ◌∷◌, ◌++◌, map, ℕ, ◌+◌, ◌%◌, eqb, length}
 use Rattle.report_spec.specs.declared.Notice.{Notice}
 use Rattle.report_spec.specs.declared.Notice.TheVariants.{Plain, Change, Sequence}
-use Rattle.report_spec.specs.declared.Last.{Last}
-use Rattle.report_spec.specs.declared.Last.TheVariants.{Absent, Was}
+use Rattle.report_spec.specs.Last.{Last, Absent, Was}
 
 -- ---- state changes
 

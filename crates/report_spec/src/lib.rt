@@ -11,13 +11,6 @@ pub enum Notice {
     Sequence(u16),
 }
 
-// The sequence of the last record of type 12, if there was one.
-#[derive(Drop)]
-pub enum Last {
-    Absent,
-    Was(u16),
-}
-
 // What going through a dump answers: the first fault's number and place, or 0 and the dump's length; where the faulty record starts, or the
 // dump's length; and the report of the records before: records, state changes, breaks of type 12's sequence, and for each old state, 1 to 6,
 // how often each new one followed it.

@@ -11,8 +11,9 @@ use Rattle.form_spec.specs.Words.{choose}
 use Rattle.octets_spec.specs.Over.{over}
 use Rattle.room_spec.specs.Answer as answer
 use Rattle.room_spec.specs.Room.{written, holds, Answers}
-use Rattle.room_spec.specs.declared.Written.{Written}
-use Rattle.room_spec.specs.declared.Written.TheVariants.{Octets, Refused}
+use Rattle.room_spec.specs.Written.{Written, Octets}
+use Rattle.form_spec.specs.Refusal.{refused}
+use Rattle.std.specs.Prelude.{Err}
 
 -- laid over out from its first octet on
 over_first : (out xs : List ℕ) → over out 0 xs ≡ xs ++ drop (length xs) out
@@ -34,7 +35,7 @@ module _ (fault place : ℕ) (xs out : List ℕ) where
   unfolding written choose
   answers = go fault
     where
-      room : (b : Bool) → ltb (length out) (length xs) ≡ b → Answers 0 place xs out (choose b (Refused 15 0) (Octets (length xs)))
+      room : (b : Bool) → ltb (length out) (length xs) ≡ b → Answers 0 place xs out (choose b (refused 15 0) (Octets (length xs)))
       room true e = rw e (refl, refl, refl)
       room false e = rw e (refl, refl, refl)
 
@@ -43,11 +44,11 @@ module _ (fault place : ℕ) (xs out : List ℕ) where
       go (suc n) = (refl, refl, refl)
 
   -- there is a fault
-  pub faulty : (fault ≡ 0 → ⊥) → Right (Refused fault place) out
+  pub faulty : (fault ≡ 0 → ⊥) → Right (refused fault place) out
   unfolding written holds
   faulty h = go fault h
     where
-      go : (n : ℕ) → (n ≡ 0 → ⊥) → (Refused n place ≡ written n place xs out) × (out ≡ holds n xs out)
+      go : (n : ℕ) → (n ≡ 0 → ⊥) → (refused n place ≡ written n place xs out) × (out ≡ holds n xs out)
       go zero h = absurd (h refl)
       go (suc n) h = (refl, refl)
 
@@ -62,7 +63,7 @@ module _ (fault place : ℕ) (xs out : List ℕ) where
     fits-laid h = rw (over_first out xs) (fits h)
 
     -- xs does not
-    pub long : length out < length xs → Right (Refused 15 0) out
+    pub long : length out < length xs → Right (refused 15 0) out
     unfolding written holds choose
     long h = rw (sound, lt-ltb (length out) (length xs) h) (refl, refl)
 
@@ -71,7 +72,7 @@ module _ (fault place : ℕ) (xs out : List ℕ) where
   unfolding written holds choose
   wrote k e = go fault e
     where
-      room : (b : Bool) → choose b (Refused 15 0) (Octets (length xs)) ≡ Octets k
+      room : (b : Bool) → choose b (refused 15 0) (Octets (length xs)) ≡ Octets k
           → (◌≡◌ {A = ℕ} 0 0) × (k ≡ length xs) × (choose b out (xs ++ drop (length xs) out) ≡ xs ++ drop (length xs) out)
       room true d = (refl, (cc), (cc))
       room false d = (refl, (cc), refl)
@@ -81,19 +82,19 @@ module _ (fault place : ℕ) (xs out : List ℕ) where
       go (suc n) d = ((cc), (cc), (cc))
 
   -- where it was refused, out is as it was
-  pub untouched : (n p : ℕ) → written fault place xs out ≡ Refused n p → holds fault xs out ≡ out
+  pub untouched : (n p : ℕ) → written fault place xs out ≡ refused n p → holds fault xs out ≡ out
   unfolding written holds choose
   untouched n p e = go fault e
     where
-      room : (b : Bool) → choose b (Refused 15 0) (Octets (length xs)) ≡ Refused n p → choose b out (xs ++ drop (length xs) out) ≡ out
+      room : (b : Bool) → choose b (refused 15 0) (Octets (length xs)) ≡ refused n p → choose b out (xs ++ drop (length xs) out) ≡ out
       room true d = refl
       room false d = cc
 
-      go : (m : ℕ) → written m place xs out ≡ Refused n p → holds m xs out ≡ out
+      go : (m : ℕ) → written m place xs out ≡ refused n p → holds m xs out ≡ out
       go zero d = room (ltb (length out) (length xs)) d
       go (suc m) d = refl
 
   -- a call that answers a number reports no octets, and out is as it was
   pub refused_nothing : (a : Written) (ys : List ℕ) → Right a ys → (answer.fault a ≡ 0 → ⊥) → (answer.count a ≡ 0) × (ys ≡ out)
   refused_nothing (Octets k) ys r h = absurd (h refl)
-  refused_nothing (Refused n p) ys r h = (refl, r.1 ∙ untouched n p (sym r.0))
+  refused_nothing (Err why) ys r h = (refl, r.1 ∙ untouched why.number why.place (sym r.0))

@@ -4,13 +4,13 @@ use Rattle.std.specs.Prelude.{List, ◌++◌, ℕ, zero, suc, ltb, length, drop,
 use Rattle.form_spec.specs.Put.{or_else}
 use Rattle.form_spec.specs.Words.{choose}
 use Rattle.room_spec.specs.Answer as answer
-use Rattle.room_spec.specs.declared.Written.{Written}
-use Rattle.room_spec.specs.declared.Written.TheVariants.{Octets, Refused}
+use Rattle.room_spec.specs.Written.{Written, Octets}
+use Rattle.form_spec.specs.Refusal.{refused}
 
 -- the fault, then 15 where xs does not go into out; else as many octets as xs has
 unfoldable pub written : (fault place : ℕ) (xs out : List ℕ) → Written
-written zero p xs out = choose (ltb (length out) (length xs)) (Refused 15 0) (Octets (length xs))
-written (suc n) p xs out = Refused (suc n) p
+written zero p xs out = choose (ltb (length out) (length xs)) (refused 15 0) (Octets (length xs))
+written (suc n) p xs out = refused (suc n) p
 
 -- a refusal leaves out as it was; else it starts with xs, and the rest stays
 unfoldable pub holds : (fault : ℕ) (xs out : List ℕ) → List ℕ

@@ -60,11 +60,9 @@ use Rattle.octets_spec.specs.Be.{num_at}
 use Rattle.page_spec.specs.Names.{bgp_rest}
 use Rattle.page_spec.specs.Layout.{layout}
 use Rattle.page_spec.specs.Rib.{entry}
-use Rattle.page_spec.specs.declared.Kind.{Kind}
-use Rattle.page_spec.specs.declared.Kind.TheVariants as chosen
-use Rattle.record_spec.specs.declared.Table.{Table}
-use Rattle.record_spec.specs.declared.Shown.{Shown}
-use Rattle.record_spec.specs.declared.Shown.TheVariants.{Nothing, Refused, Good}
+use Rattle.page_spec.specs.Chosen.{Chosen}
+use Rattle.record_spec.specs.Table.{Table, Holds, state_of}
+use Rattle.record_spec.specs.Shown.{Shown, Nothing, Good}
 use Rattle.record_spec.specs.declared.Header.{Header}
 use Rattle.record_spec.specs.declared.Peers.{Peers}
 use Rattle.record_spec.specs.declared.Peer.{Peer}
@@ -72,16 +70,14 @@ use Rattle.record_spec.specs.declared.Entry.{Entry}
 use Rattle.record_spec.specs.declared.Routes.{Routes}
 use Rattle.record_spec.specs.declared.Scope.{Scope}
 use Rattle.record_spec.specs.declared.Body.TheVariants.{PeerTable, Rib, RibGeneric}
-use Rattle.record_spec.specs.declared.Table.TheVariants.{Holds}
-use Rattle.record_spec.specs.Table.{state_of}
 use Rattle.record_spec.specs.One.{read_one}
 use Rattle.record_spec.specs.Answer.{fault, place, end, within, peer_fault, peer_end, entry_fault, entry_end}
 use Rattle.record_spec.specs.Reads.{number_at, Reads}
 use Rattle.record_spec.specs.Items.{peer_at, entry_at, met, peer_of, entry_of, Each, Meets}
 use Rattle.room_spec.specs.Answer as written
-use Rattle.room_spec.specs.declared.Written.{Written}
+use Rattle.room_spec.specs.Written.{Written}
 use Rattle.room_spec.specs.Room.{number_for}
-use Rattle.room_spec.specs.declared.Written.TheVariants as answer
+use Rattle.room_spec.specs.Written as answer
 use Rattle.write_spec.specs.Only.{only, Own}
 use Rattle.write_spec.specs.Verdict.{writer_answer, writer_leaves, Writes}
 use Rattle.record_spec.specs.Tells.{Tells}
@@ -94,12 +90,12 @@ use Rattle.place_spec.specs.Faulty.{record_end, Faulty, FaultyDump}
 use Rattle.walk_spec.specs.Walked.{walked}
 use Rattle.walk_spec.specs.Steps.{step_at}
 use Rattle.walk_spec.specs.Answer.{Steps}
-use Rattle.walk_spec.specs.declared.Step.{Step}
+use Rattle.walk_spec.specs.Step.{Step}
 use Rattle.listing_spec.specs.Text.{fault_line, lines, listing}
 use Rattle.cut_spec.specs.Cut.{mem}
 use Rattle.cut_spec.specs.Answer.{left_of, cut_answer, cut_leaves, Cuts}
 use Rattle.report_spec.specs.declared.Notice.TheVariants.{Change}
-use Rattle.report_spec.specs.declared.Last.TheVariants.{Absent}
+use Rattle.report_spec.specs.Last.{Absent}
 use Rattle.report_spec.specs.Notice.{notice, notice_of, InStates}
 use Rattle.report_spec.specs.Own.{changes, times, breaks_behind}
 use Rattle.report_spec.specs.Sum.{empty, breaks_alone, sums, fit, Balanced}
@@ -137,6 +133,7 @@ use Rattle.report_laws.proofs.Sums as balances
 use Rattle.report_laws.proofs.Ends as ends
 use Rattle.report_laws.proofs.Order as order
 use Rattle.dagsumilat_laws.proofs.Items as calls
+use Rattle.form_spec.specs.Refusal.{refused}
 
 -- ==== Demand 1. Any bytes may arrive, and any call may be made with them.
 --
@@ -187,7 +184,7 @@ module _ (longest : ℕ) where
   -- a reader that is told the table in force refuses the faulty record with the same number, at the dump's place less the offset where the
   -- record starts
   pub reader_has_the_place_less_the_offset : (d : List ℕ) → Octets d → (n p start : ℕ) (h : FaultyDump longest d n p start) (t : Table) → Tells t (nexts (layout longest) h.recs no_table)
-      → read_one longest t (drop start d) ≡ Refused n (p - start)
+      → read_one longest t (drop start d) ≡ refused n (p - start)
   reader_has_the_place_less_the_offset d o n p start h t told = dump_places.shown_alone longest d n p start h o t told
 
   -- the place is in the dump, and in the faulty record or where it ends
@@ -269,21 +266,21 @@ module _ (longest : ℕ) where
     abbrev x : Shown
     x = read_one longest t s
 
-    pub written_back : (other : Kind) (out : List ℕ) → place x ≤ length out
+    pub written_back : (other : Chosen) (out : List ℕ) → place x ≤ length out
         → (writer_answer (only (writer_of x) other longest) st (again s x) out ≡ answer.Octets (place x)) × (writer_leaves (only (writer_of x) other longest) st (again s x) out ≡ take (place x) s ++ drop (place x) out)
     written_back other out h = let b = restores.writes_back longest t st told s o some good other out h in (b.answer, b.left)
 
   -- reading what a writer did not refuse shows its kind and the fields given; each of the seven writers, by its own parameters and its
   -- own promise, in record_laws/proofs/ReadBack, where the reader of a record that asks for no table may be told any
   pub read_back : (t : Table) (st : St) → Tells t st → (n a p : ℕ) (g : Given) → Fair n g → (out held : List ℕ) (k : ℕ) → Octets out
-      → Writes (only n (chosen.Refused (suc a) p) longest) st g out (answer.Octets k) held
+      → Writes (only n (refused (suc a) p) longest) st g out (answer.Octets k) held
       → let y = read_one longest t held in (fault y ≡ 0) × (place y ≡ k) × (writer_of y ≡ n) × (again held y ≡ g)
   read_back t st told n a p g fair out held k o w = let b = writing.read_back longest t st told n a p g fair st (λ e. e) out held k o w in (b.accepted, b.ends, b.whose, b.given)
 
   -- a writer's number is the reader's: what reading would answer for the record's octets, and 15 only where that is 0; its place is 0. The
   -- record is the writer's own, or one that both refuse by its Type or Subtype, and every value has its place. Each of the seven writers, by
   -- its own parameters and its own promise, in record_laws/proofs/AsReader; what `Placed` asks of them in record_laws/proofs/Placed
-  pub refuses_as_read : (t : Table) (n : ℕ) (other : Kind) (g : Given) → Own n other g → Placed (layout longest) (state_of t) g → (out held : List ℕ) (r : Written)
+  pub refuses_as_read : (t : Table) (n : ℕ) (other : Chosen) (g : Given) → Own n other g → Placed (layout longest) (state_of t) g → (out held : List ℕ) (r : Written)
       → Writes (only n other longest) (state_of t) g out r held → (written.fault r ≡ number_for (number_at longest t (octets g)) (octets g) out) × (written.place r ≡ 0)
   refuses_as_read t n other g own h out held r w =
       (as_reader.told_as_read longest t out held r n other g own h w, as_reader.writer-place (only n other longest) (state_of t) g out held r w)

@@ -12,13 +12,13 @@ use Rattle.form_spec.specs.Shape.{St}
 use Rattle.form_spec.specs.Record.{Rec, Valid}
 use Rattle.page_spec.specs.Layout.{layout}
 use Rattle.octets_spec.specs.Be.{num_at}
-use Rattle.record_spec.specs.declared.Table.{Table}
+use Rattle.record_spec.specs.Table.{Table}
 use Rattle.record_spec.specs.Answer.{end, time}
 use Rattle.record_spec.specs.Agrees.{Same}
 use Rattle.record_spec.specs.One.{whole_record, read_one}
 use Rattle.walk_spec.specs.Steps.{step_of, step_at}
 use Rattle.walk_spec.specs.declared.Item.{Item}
-use Rattle.walk_spec.specs.declared.Step.TheVariants.{Record}
+use Rattle.walk_spec.specs.Step.{Record}
 use Rattle.walk_laws.proofs.Answers.{before_end}
 use Rattle.walk_laws.proofs.Ahead.{Ahead, passes}
 use Rattle.look_laws.proofs.There.{taken_octets}

@@ -9,8 +9,7 @@ use lib.ListN.{length, get_or, replicate, length-append, length-map}
 use Rattle.form_spec.specs.Record.{Rec}
 use Rattle.form_spec.specs.Dump.{writes, walk_all}
 use Rattle.page_spec.specs.Layout.{layout}
-use Rattle.record_spec.specs.declared.Table.{Table}
-use Rattle.record_spec.specs.declared.Table.TheVariants.{Absent}
+use Rattle.record_spec.specs.Table.{Table, Absent}
 use Rattle.walk_spec.specs.declared.Walked.{Walked}
 use Rattle.walk_spec.specs.Walked.{walked}
 use Rattle.walk_laws.proofs.Ahead.{Ahead, ahead_all}
@@ -18,7 +17,7 @@ use Rattle.report_spec.specs.declared.Notice.{Notice}
 use Rattle.report_spec.specs.declared.Notice.TheVariants.{Plain, Change, Sequence}
 use Rattle.report_spec.specs.Notice.{InStates}
 use Rattle.report_spec.specs.declared.Last as last
-use Rattle.report_spec.specs.declared.Last.TheVariants as before
+use Rattle.report_spec.specs.Last as before
 use Rattle.report_spec.specs.declared.Tallied.{Tallied}
 use Rattle.report_spec.specs.Own.{changes, cells, broken, last_behind, breaks_behind, numbers, own}
 use Rattle.report_spec.specs.Tally.{bumped, heeded, tally_of, tallied}

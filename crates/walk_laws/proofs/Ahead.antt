@@ -11,17 +11,17 @@ use Rattle.form_spec.specs.Dump.{Walk, stop, writes, walk_from, walk_all}
 use Rattle.form_laws.proofs.Record.{length-write}
 use Rattle.form_laws.proofs.Dump.{writes-append}
 use Rattle.page_spec.specs.Layout.{layout}
-use Rattle.record_spec.specs.declared.Table.{Table}
-use Rattle.record_spec.specs.declared.Table.TheVariants.{Absent}
+use Rattle.record_spec.specs.Table.{Table, Absent}
 use Rattle.record_spec.specs.One.{read_one}
 use Rattle.record_spec.specs.Agrees.{Same}
 use Rattle.record_spec.specs.Tells.{Tells}
 use Rattle.walk_spec.specs.Steps.{step_at}
 use Rattle.walk_spec.specs.Walked.{befores}
 use Rattle.walk_spec.specs.declared.Item.{Item}
-use Rattle.walk_spec.specs.declared.Step.TheVariants.{End, Fault, Record}
+use Rattle.walk_spec.specs.Step.{End, Record}
 use Rattle.walk_laws.proofs.Answers.{before_end}
 use Rattle.walk_laws.proofs.Goes.{goes_to, shown_past}
+use Rattle.form_spec.specs.Refusal.{refused}
 
 -- at offset at, where the records rs end and the table t is told
 pub record Ahead (longest : ℕ) (d : List ℕ) (at : ℕ) (t : Table) (rs : List Rec) : Type 0 where
@@ -45,8 +45,8 @@ module _ (longest : ℕ) (d : List ℕ) where
     pub ends : step_at longest t d at ≡ End → walk_all (layout longest) d ≡ record { fault = 0; place = at; recs = rs }
     ends e = stops 0 at rs _ a.whole (goes_to longest d oc at a.bound t a.st a.tells End e).walk
 
-    pub faults : (f p : ℕ) → step_at longest t d at ≡ Fault f p → walk_all (layout longest) d ≡ record { fault = f; place = p; recs = rs }
-    faults f p e = stops f p rs _ a.whole (goes_to longest d oc at a.bound t a.st a.tells (Fault f p) e).walk
+    pub faults : (f p : ℕ) → step_at longest t d at ≡ refused f p → walk_all (layout longest) d ≡ record { fault = f; place = p; recs = rs }
+    faults f p e = stops f p rs _ a.whole (goes_to longest d oc at a.bound t a.st a.tells (refused f p) e).walk
 
     -- one record further
     pub record Passes (i : Item) (u : Table) : Type 0 where

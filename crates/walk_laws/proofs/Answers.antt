@@ -7,19 +7,19 @@ use native.Mathlib.Omega.{arith}
 use lib.Dec.{ltb}
 use lib.ListN.{length}
 use borrow.Author.Tests.{ltb-true, ltb-false}
-use Rattle.record_spec.specs.declared.Table.{Table}
-use Rattle.record_spec.specs.declared.Shown.{Shown}
-use Rattle.record_spec.specs.declared.Shown.TheVariants.{Nothing, Refused, Good}
+use Rattle.record_spec.specs.Table.{Table}
+use Rattle.record_spec.specs.Shown.{Shown, Nothing, Good}
 use Rattle.record_spec.specs.Answer.{fault, place}
 use Rattle.walk_spec.specs.Steps.{step_of, step_at}
 use Rattle.walk_spec.specs.declared.Item.{Item}
-use Rattle.walk_spec.specs.declared.Step.TheVariants as step
+use Rattle.walk_spec.specs.Step as step
 use Rattle.walk_laws.proofs.Steps.{past_end}
+use Rattle.std.specs.Prelude.{Err}
 
 module _ (t : Table) (at : ℕ) where
   pub over_record : (i : Item) (u : Table) (x : Shown) → step_of t at x ≡ step.Record i u → (fault x ≡ 0) × (i.next ≡ at + place x)
   over_record i u Nothing e = let z : ◌≡◌ {A = ℕ} 0 1 = cc in absurd (omega arith)
-  over_record i u (Refused n p) e = let z : ◌≡◌ {A = ℕ} 0 1 = cc in absurd (omega arith)
+  over_record i u (Err why) e = let z : ◌≡◌ {A = ℕ} 0 1 = cc in absurd (omega arith)
   over_record i u (Good a b) e = (refl, cc)
 
 -- a step that finds a record stands before the dump's end

@@ -21,23 +21,21 @@ use Rattle.form_laws.proofs.Dump.{walk_end, walk_bad, walk_good, good_fits}
 use Rattle.page_spec.specs.Layout.{layout}
 use Rattle.page_laws.proofs.Inside.{inside}
 use Rattle.record_spec.specs.declared.Header.{Header}
-use Rattle.record_spec.specs.declared.Table.{Table}
-use Rattle.record_spec.specs.declared.Shown.{Shown}
-use Rattle.record_spec.specs.declared.Shown.TheVariants.{Nothing, Refused, Good}
+use Rattle.record_spec.specs.Table.{Table, state_of}
+use Rattle.record_spec.specs.Shown.{Shown, Nothing, Good}
 use Rattle.record_spec.specs.One.{read_one}
 use Rattle.record_spec.specs.Answer.{table_behind}
 use Rattle.record_spec.specs.Tells.{Tells}
 use Rattle.record_spec.specs.Agrees.{Same, Agrees, head_of}
 use Rattle.record_laws.proofs.One.{one_record}
-use Rattle.record_laws.proofs.Accepts.{no_octets, not_refused}
-use Rattle.record_spec.specs.Table.{state_of}
-use Rattle.record_laws.proofs.Accepts.{tells-table}
+use Rattle.record_laws.proofs.Accepts.{no_octets, not_refused, tells-table}
 use Rattle.place_laws.proofs.Record.{faulty_record, place_in}
 use Rattle.walk_spec.specs.Steps.{stepped, step_of, step_at}
 use Rattle.walk_spec.specs.declared.Item.{Item}
-use Rattle.walk_spec.specs.declared.Step.{Step}
-use Rattle.walk_spec.specs.declared.Step.TheVariants.{End, Fault, Record}
+use Rattle.walk_spec.specs.Step.{Step, End, Record}
 use Rattle.walk_laws.proofs.Table.{tells_behind}
+use Rattle.form_spec.specs.Refusal.{refused}
+use Rattle.std.specs.Prelude.{Err}
 
 -- ---- what a step says of the walk from there on
 
@@ -75,7 +73,7 @@ module _ (longest : ℕ) (d : List ℕ) (at : ℕ) (st : St) where
 
   abbrev pub Goes : Step → Type 0
   Goes End = AtEnd
-  Goes (Fault n p) = AtFault n p
+  Goes (Err why) = AtFault why.number why.place
   Goes (Record i t) = Past i t
 
 -- ---- the law
@@ -125,7 +123,7 @@ module _ (longest : ℕ) (d : List ℕ) (oc : Octets d) (at : ℕ) (bound : at �
     shown : (r : Rec) (q : List ℕ) → read_rec (layout longest) st 0 s ≡ good r q → Right (Valid (layout longest) st) write s (good r q) → (x : Shown) → Same longest s r x
         → Goes longest d at st (step_of t at x)
     shown r q a w Nothing m = absurd (omega (arith, m.ends))
-    shown r q a w (Refused n p) m = absurd (not_refused longest st s r n p w.0 m)
+    shown r q a w (Err why) m = absurd (not_refused longest st s r why.number why.place w.0 m)
     shown r q a w (Good h b) m = past r q a w h m.headed (table_behind t b) (tells_behind longest s r h b t st m tells)
 
     found : (o : Out Rec) → read_rec (layout longest) st 0 s ≡ o → Right (Valid (layout longest) st) write s o → (x : Shown) → Agrees longest s o x → Goes longest d at st (step_of t at x)
@@ -158,9 +156,9 @@ pub step_on : (longest : ℕ) (d : List ℕ) → Octets d → (at : ℕ) → at 
 step_on longest d oc at h t i u e = let g = goes_to longest d oc at h t (state_of t) (tells-table t) (Record i u) e in (g.on, g.inside)
 
 -- and a fault's place is in the dump, from where its record starts on
-pub fault_in : (longest : ℕ) (d : List ℕ) → Octets d → (at : ℕ) → at < length d → (t : Table) (n p : ℕ) → step_at longest t d at ≡ Fault n p → (at ≤ p) × (p ≤ length d)
+pub fault_in : (longest : ℕ) (d : List ℕ) → Octets d → (at : ℕ) → at < length d → (t : Table) (n p : ℕ) → step_at longest t d at ≡ refused n p → (at ≤ p) × (p ≤ length d)
 fault_in longest d oc at h t n p e =
-    let g = goes_to longest d oc at (omega arith) t (state_of t) (tells-table t) (Fault n p) e in
+    let g = goes_to longest d oc at (omega arith) t (state_of t) (tells-table t) (refused n p) e in
     let s : List ℕ = drop at d in
     let i : g.off ≤ length d - at = rw length-drop at (place_in longest (state_of t) s n g.off (faulty_record longest (state_of t) s (octets-drop at d oc) (rw length-drop (omega arith)) n g.off g.read)).0 in
     (omega (arith, g.here), omega (arith, g.here))

@@ -7,17 +7,16 @@ use lib.ListN.{length, take, drop, length-drop, drop_of_length-le}
 use lib.Seq.{take_all}
 use Rattle.form_spec.specs.Octets.{Octets}
 use Rattle.form_laws.proofs.Octets.{octets-drop}
-use Rattle.record_spec.specs.declared.Shown.{Shown}
-use Rattle.record_spec.specs.declared.Shown.TheVariants.{Nothing, Refused, Good}
-use Rattle.record_spec.specs.declared.Table.{Table}
+use Rattle.record_spec.specs.Shown.{Shown, Nothing, Good}
+use Rattle.record_spec.specs.Table.{Table}
 use Rattle.record_spec.specs.One.{read_one}
 use Rattle.record_spec.specs.Answer as shown
 use Rattle.record_laws.proofs.Accepts.{no_octets}
 use Rattle.record_laws.proofs.Numbers.{reads}
 use Rattle.walk_spec.specs.Steps.{step_of, step_at}
 use Rattle.walk_spec.specs.Answer.{fault, place, Steps}
-use Rattle.walk_spec.specs.declared.Step.{Step}
-use Rattle.walk_spec.specs.declared.Step.TheVariants.{End}
+use Rattle.walk_spec.specs.Step.{Step, End}
+use Rattle.std.specs.Prelude.{Err}
 
 module _ (longest : ℕ) (t : Table) (d : List ℕ) (at : ℕ) where
   pub past_end : length d ≤ at → End ≡ step_at longest t d at
@@ -35,7 +34,7 @@ module _ (longest : ℕ) (t : Table) (d : List ℕ) (at : ℕ) where
 -- a step has the number of what is shown, and its place so much further on
 moved : (t : Table) (at : ℕ) (x : Shown) → (fault (step_of t at x) ≡ shown.fault x) × (place at (step_of t at x) ≡ at + shown.place x)
 moved t at Nothing = (refl, omega arith)
-moved t at (Refused n p) = (refl, omega arith)
+moved t at (Err why) = (refl, omega arith)
 moved t at (Good h b) = (refl, refl)
 
 pub steps : (longest : ℕ) (t : Table) (d : List ℕ) (at : ℕ) → Octets d → Steps longest t d at (step_at longest t d at)

@@ -11,25 +11,23 @@ use Rattle.form_spec.specs.Put.{items}
 use Rattle.form_spec.specs.Gives.{tail_of}
 use Rattle.page_spec.specs.Peers.{peer}
 use Rattle.page_spec.specs.Layout.{layout_for, layout, kind}
-use Rattle.page_spec.specs.declared.Kind.{Kind}
-use Rattle.page_spec.specs.declared.Kind.TheVariants.{Refused, Unread, TableDump, PeerTable, Rib, RibGeneric, Change, Message}
+use Rattle.page_spec.specs.Chosen.{Chosen, Unread, TableDump, PeerTable, Rib, RibGeneric, Change, Message}
 use Rattle.record_spec.specs.declared.Header.{Header}
 use Rattle.record_spec.specs.declared.Body as shown
 use Rattle.record_spec.specs.declared.Body.TheVariants as body
-use Rattle.record_spec.specs.declared.Shown.{Shown}
-use Rattle.record_spec.specs.declared.Shown.TheVariants.{Good}
-use Rattle.record_spec.specs.declared.Table.{Table}
-use Rattle.record_spec.specs.declared.Table.TheVariants.{Holds}
+use Rattle.record_spec.specs.Shown.{Shown, Good}
+use Rattle.record_spec.specs.Table.{Table, Holds}
 use Rattle.record_spec.specs.Answer.{table_behind}
 use Rattle.write_spec.specs.Only.{peer_tables, writer}
 use Rattle.record_spec.specs.Tells.{Tells}
 use Rattle.record_spec.specs.Agrees.{writer_of, Same}
+use Rattle.std.specs.Prelude.{Err}
 
 -- ---- only a peer table changes the table in force
 
-kept : (longest : ℕ) (k : Kind) (b : Body) (st : St) → (writer k ≡ peer_tables → ⊥) → after (layout_for longest k) b st ≡ st
+kept : (longest : ℕ) (k : Chosen) (b : Body) (st : St) → (writer k ≡ peer_tables → ⊥) → after (layout_for longest k) b st ≡ st
 unfolding after layout_for
-kept longest (Refused n p) b st h = refl
+kept longest (Err why) b st h = refl
 kept longest (Unread micro) b st h = refl
 kept longest (TableDump size) b st h = refl
 kept longest PeerTable b st h = absurd (h refl)
@@ -44,8 +42,8 @@ other_kind longest s r x t st a h tells = rw (kept longest (kind r.type r.sub) r
 
 -- ---- a peer table
 
-the_kind : (k : Kind) → writer k ≡ peer_tables → k ≡ PeerTable
-the_kind (Refused n p) e = absurd (omega arith)
+the_kind : (k : Chosen) → writer k ≡ peer_tables → k ≡ PeerTable
+the_kind (Err why) e = absurd (omega arith)
 the_kind (Unread micro) e = absurd (omega arith)
 the_kind (TableDump size) e = absurd (omega arith)
 the_kind PeerTable e = refl
@@ -59,7 +57,7 @@ counted (plain cs) n raw e = let z : ◌≡◌ {A = ℕ} 0 1 = cc in absurd (ome
 counted (loose cs r) n raw e = let z : ◌≡◌ {A = ℕ} 0 1 = cc in absurd (omega arith)
 counted (listed cs its) n raw e = let z : n ≡ length its = cc in z ∙ sym (length-map its (as_of peer))
 
-by_kind : (longest : ℕ) (k : Kind) (b : Body) (st : St) (n : ℕ) (raw : List ℕ) → k ≡ PeerTable → items n raw ≡ tail_of b → Tells (Holds n) (after (layout_for longest k) b st)
+by_kind : (longest : ℕ) (k : Chosen) (b : Body) (st : St) (n : ℕ) (raw : List ℕ) → k ≡ PeerTable → items n raw ≡ tail_of b → Tells (Holds n) (after (layout_for longest k) b st)
 unfolding after layout_for
 by_kind longest k b st n raw e h = rw e (counted b n raw h)
 

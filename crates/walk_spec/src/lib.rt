@@ -1,10 +1,11 @@
 // What going through a dump answers. Offsets count from the dump's first octet.
 #![tactic(auto)]
 
+use form_spec::Fault;
 use record_spec::Table;
 
 // A record: where it starts, its time in microseconds, and where the next one starts.
-#[derive(Drop)]
+#[derive(Clone, Copy)]
 pub struct Item {
     pub at: usize,
     pub time: u64,
@@ -14,15 +15,8 @@ pub struct Item {
     pub next: usize,
 }
 
-#[derive(Drop)]
-pub enum Step {
-    // no octets are left
-    End,
-    // a fault's number and place
-    Fault(u8, usize),
-    // a record, and the table in force behind it
-    Record(Item, Table),
-}
+// A record and the table in force behind it, unless no octets are left; or the fault.
+pub type Step = Result<Option<(Item, Table)>, Fault>;
 
 // The first fault's number and place, or 0 and the dump's length; where the faulty record starts, or the dump's length; and how many records
 // stand before it.

@@ -17,10 +17,10 @@ use Rattle.page_spec.specs.Bgp4mp.{message, message_rest}
 use Rattle.record_spec.specs.Fields.{message_of}
 use Rattle.record_spec.specs.declared.Header.{Header}
 use Rattle.record_spec.specs.declared.Session.{Session}
-use Rattle.record_spec.specs.declared.Shown.{Shown}
-use Rattle.record_spec.specs.declared.Shown.TheVariants.{Refused}
+use Rattle.record_spec.specs.Shown.{Shown}
 use Rattle.write_spec.specs.Givens.{bgp_values}
 use Rattle.record_spec.specs.Answer.{fault}
+use Rattle.form_spec.specs.Refusal.{refused}
 
 -- n is the number of the refusal, or 0
 unfoldable Judged : ℕ → Shown → Type 0
@@ -34,7 +34,7 @@ ends long k = cond (ltb long (19 + k)) 5 (cond (ltb (19 + k) long) 6 0)
 abbrev number : (longest long n : ℕ) → ℕ
 number longest long n = cond (ltb long 16) 5 (cond (ltb long 18) 5 (cond (ltb long 19) 5 (cond (in_range 19 n longest) (ends long (n - 19)) 10)))
 
-said : (k p : ℕ) → Judged k (Refused k p)
+said : (k p : ℕ) → Judged k (refused k p)
 unfolding Judged
 said k p = refl
 
@@ -44,20 +44,20 @@ either false m n x y p q = q
 
 -- behind the type octet: `to` is told where the message ends
 rest : (to : List Seen → ℕ → ℕ → Shown) (longest n : ℕ) (b : List ℕ) → ((fs : List Seen) (a p : ℕ) → Judged (cond (ltb a (length b)) 6 0) (to fs a p))
-    → Judged (cond (in_range 19 n longest) (ends (length b) (n - 19)) 10) (pass to Refused (message_rest longest n) b 19)
+    → Judged (cond (in_range 19 n longest) (ends (length b) (n - 19)) 10) (pass to refused (message_rest longest n) b 19)
 unfolding pass message_rest must area
 rest to longest n b h = go (in_range 19 n longest)
   where
-    go : (w : Bool) → Judged (cond w (ends (length b) (n - 19)) 10) (pass to Refused (test (cond w 0 10) 3 (area bgp_rest (n - 19) 3 (end (n - 16)))) b 19)
+    go : (w : Bool) → Judged (cond w (ends (length b) (n - 19)) 10) (pass to refused (test (cond w 0 10) 3 (area bgp_rest (n - 19) 3 (end (n - 16)))) b 19)
     go true = either (ltb (length b) (19 + (n - 19))) _ _ _ _ (said 5 _) (h _ (19 + (n - 19)) _)
     go false = said 10 _
 
-last : (b : Bool) (p : ℕ) (h : Header) (s : Session) (fs : List Seen) → Judged (cond b 6 0) (choose b (Refused 6 p) (message_of h s fs))
+last : (b : Bool) (p : ℕ) (h : Header) (s : Session) (fs : List Seen) → Judged (cond b 6 0) (choose b (refused 6 p) (message_of h s fs))
 unfolding choose Judged
 last true p h s fs = refl
 last false p h s fs = refl
 
-reader : (longest : ℕ) (h : Header) (s : Session) (b : List ℕ) → Judged (number longest (length b) (be (take 2 (drop 16 b)))) (whole (message_of h s) Refused (message longest) b 0)
+reader : (longest : ℕ) (h : Header) (s : Session) (b : List ℕ) → Judged (number longest (length b) (be (take 2 (drop 16 b)))) (whole (message_of h s) refused (message longest) b 0)
 unfolding pass message num skip
 reader longest h s b =
     let n : ℕ = be (take 2 (drop 16 b)) in
@@ -65,7 +65,7 @@ reader longest h s b =
     either (ltb (length b) 16) _ _ _ _ (said 5 _)
     (either (ltb (length b) 18) _ _ _ _ (said 5 _)
     (either (ltb (length b) 19) _ _ _ _ (said 5 _)
-    (rest (λ fs a p. choose (ltb a (length b)) (Refused 6 p) (message_of h s (seen fs))) longest n b (λ fs a p. last (ltb a (length b)) p h s (seen fs)))))
+    (rest (λ fs a p. choose (ltb a (length b)) (refused 6 p) (message_of h s (seen fs))) longest n b (λ fs a p. last (ltb a (length b)) p h s (seen fs)))))
 
 -- ---- the writer's
 
@@ -120,6 +120,6 @@ writes longest b = go (ltb (length b) 16) (ltb (length b) 18) (ltb (length b) 19
         ending (length b) (n - 19) h
         ∙ sym (rw (there 16 0 b (ltb-false (length b) 16 p), there 2 16 b (ltb-false (length b) 18 q), there 1 18 b h, length-drop))
 
-pub judged : (longest : ℕ) (h : Header) (s : Session) (b : List ℕ) (x : Shown) → x ≡ whole (message_of h s) Refused (message longest) b 0 → fault x ≡ refusal (message longest) (bgp_values b)
+pub judged : (longest : ℕ) (h : Header) (s : Session) (b : List ℕ) (x : Shown) → x ≡ whole (message_of h s) refused (message longest) b 0 → fault x ≡ refusal (message longest) (bgp_values b)
 unfolding Judged
 judged longest h s b x e = ap fault e ∙ reader longest h s b ∙ writes longest b

@@ -12,8 +12,7 @@ use Rattle.form_spec.specs.Put.{Value, lay, message, large}
 use Rattle.form_spec.specs.Words.{choose}
 use Rattle.form_laws.proofs.Octets.{length-to_be}
 use Rattle.page_spec.specs.Layout.{kind, kind16}
-use Rattle.page_spec.specs.declared.Kind.{Kind}
-use Rattle.page_spec.specs.declared.Kind.TheVariants.{Refused, Unread, TableDump, PeerTable, Rib, RibGeneric, Change, Message}
+use Rattle.page_spec.specs.Chosen.{Chosen, Unread, TableDump, PeerTable, Rib, RibGeneric, Change, Message}
 use Rattle.page_spec.specs.contracts.Kind as declared
 use Rattle.page_spec.specs.Sane.{Sane}
 use Rattle.page_laws.proofs.Widths.{sane16, Stamps, stamps16}
@@ -25,6 +24,7 @@ use Rattle.write_spec.specs.declared.Time.TheVariants.{Seconds, Micro}
 use Rattle.write_laws.proofs.Answers.{micros_long}
 use Rattle.write_laws.proofs.Laid.{both}
 use Rattle.write_bgp.specs.Opening.{opening_values, opening_size}
+use Rattle.std.specs.Prelude.{Err}
 
 -- ---- the kinds of types 16 and 17
 
@@ -42,18 +42,18 @@ micro_small (Seconds x) = omega arith
 micro_small (Micro x u) = omega arith
 
 -- a kind as code finds it: k, where micro is m
-pub record Found (t : Time) (s : ℕ) (k : Kind) : Type 0 where
+pub record Found (t : Time) (s : ℕ) (k : Chosen) : Type 0 where
   pub page : k ≡ kind (bgp4mp t) s
   pub sane : Sane k
   pub stamps : Stamps (micro_size t) k
 
-pub found : (t : Time) (s m : ℕ) (k : Kind) → m ≡ micro_size t → k ≡ kind16 m s → Found t s k
+pub found : (t : Time) (s m : ℕ) (k : Chosen) → m ≡ micro_size t → k ≡ kind16 m s → Found t s k
 found t s m k e h =
     let d : k ≡ kind16 (micro_size t) s = h ∙ ap (λ (x : ℕ). kind16 x s) e in
     record { page = d ∙ kind_is t s; sane = rw d (sane16 (micro_size t) s (micro_small t)); stamps = rw d (stamps16 (micro_size t) s) }
 
-pub no_width : (k : Kind) → OneOf (0 ∷ 1 ∷ 2 ∷ 3 ∷ 4 ∷ 5 ∷ []) (tag_of declared.the_type k) → 0 ≡ as_octets k
-no_width (Refused n p) h = refl
+pub no_width : (k : Chosen) → OneOf (0 ∷ 1 ∷ 2 ∷ 3 ∷ 4 ∷ 5 ∷ []) (tag_of declared.the_type k) → 0 ≡ as_octets k
+no_width (Err why) h = refl
 no_width (Unread micro) h = refl
 no_width (TableDump size) h = refl
 no_width PeerTable h = refl

@@ -19,10 +19,11 @@ use Rattle.write_spec.specs.Verdict.{writer_answer, writer_leaves, Writes, cappe
 use Rattle.write_spec.specs.Times.{micro_size, micros}
 use Rattle.write_spec.specs.declared.Time.{Time}
 use Rattle.write_spec.specs.declared.Time.TheVariants.{Seconds, Micro}
-use Rattle.room_spec.specs.declared.Written.{Written}
-use Rattle.room_spec.specs.declared.Written.TheVariants.{Octets, Refused}
+use Rattle.room_spec.specs.Written.{Written, Octets}
 use Rattle.room_laws.proofs.Room.{Right, answers, faulty, fits-laid, long}
 use Rattle.write_laws.proofs.Sums.{cap}
+use Rattle.form_spec.specs.Refusal.{refused}
+use Rattle.std.specs.Prelude.{Err}
 
 length-octets : (g : Given) → length (octets g) ≡ 12 + length (message g)
 unfolding octets
@@ -30,7 +31,7 @@ length-octets g = simp (length-append, length-to_be) (omega arith)
 
 -- what the verdict says of a record that is refused with n but for its Length and the room
 abbrev Says : (n : ℕ) (m xs out : List ℕ) → Written → Type 0
-Says n m xs out (Refused k p) = Right (or_else n (large 4 (length m))) 0 xs out (Refused k p) out
+Says n m xs out (Err why) = Right (or_else n (large 4 (length m))) 0 xs out (refused why.number why.place) out
 Says n m xs out (Octets k) =
     Right (or_else n (large 4 (length m))) 0 xs out (Octets k) (over out 0 xs) × (12 + length m ≤ length out) × (capped (length m) ≡ length m)
 
@@ -40,7 +41,7 @@ says (suc n) m xs out e = faulty (suc n) 0 xs out (λ z. omega arith)
 says zero m xs out e = go (ltb 4294967295 (capped (length m))) (ltb (length out) (12 + capped (length m))) refl refl
   where
     go : (t u : Bool) → ltb 4294967295 (capped (length m)) ≡ t → ltb (length out) (12 + capped (length m)) ≡ u
-        → Says 0 m xs out (choose t (Refused 6 0) (choose u (Refused 15 0) (Octets (12 + capped (length m)))))
+        → Says 0 m xs out (choose t (refused 6 0) (choose u (refused 15 0) (Octets (12 + capped (length m)))))
     go true u p q =
         let c = cap (length m) in
         let h : 256 ^ 4 ≤ length m = omega (arith, ltb-true 4294967295 (capped (length m)) p, c.most) in
@@ -63,12 +64,12 @@ says zero m xs out e = go (ltb 4294967295 (capped (length m))) (ltb (length out)
 
 -- ---- the verdict's own ways out
 
-pub refused_first : (n size room : ℕ) → 0 < n → Refused n 0 ≡ verdict_of n size room
+pub refused_first : (n size room : ℕ) → 0 < n → refused n 0 ≡ verdict_of n size room
 unfolding verdict_of
 refused_first zero size room h = absurd (omega arith)
 refused_first (suc n) size room h = refl
 
-pub refused_not : (n size room : ℕ) (x : Written) → n ≤ 0 → x ≡ choose (ltb 4294967295 size) (Refused 6 0) (choose (ltb room (12 + size)) (Refused 15 0) (Octets (12 + size))) → x ≡ verdict_of n size room
+pub refused_not : (n size room : ℕ) (x : Written) → n ≤ 0 → x ≡ choose (ltb 4294967295 size) (refused 6 0) (choose (ltb room (12 + size)) (refused 15 0) (Octets (12 + size))) → x ≡ verdict_of n size room
 unfolding verdict_of
 refused_not zero size room x h e = e
 refused_not (suc n) size room x h e = absurd (omega arith)
@@ -92,7 +93,7 @@ module _ (layout : ℕ → ℕ → Layout) (st : St) (g : Given) (out : List ℕ
   said = rw (judged, refused, sized, lent) (says (fields_refusal layout st g) (message g) (octets g) out (length-octets g))
 
   -- a refusal: the answer is right, and so is the buffer as it was
-  pub refuses : (k p : ℕ) → v ≡ Refused k p → Writes layout st g out v out
+  pub refuses : (k p : ℕ) → v ≡ refused k p → Writes layout st g out v out
   unfolding record_refusal
   refuses k p e = let s = rw e at said in writes layout st g out out v (e ∙ s.0) s.1
 

@@ -15,10 +15,10 @@ use Rattle.form_spec.specs.Put.{Value, Tail, Given, or_else, large, refusal, ite
 use Rattle.form_spec.specs.Shape.{St, plan}
 use Rattle.form_spec.specs.Words.{choose}
 use Rattle.page_spec.specs.Layout.{kind, layout_for, unlisted}
-use Rattle.page_spec.specs.declared.Kind.{Kind}
-use Rattle.page_spec.specs.declared.Kind.TheVariants.{Refused, Unread, TableDump, PeerTable, Rib, RibGeneric, Change, Message}
+use Rattle.page_spec.specs.Chosen.{Chosen, Unread, TableDump, PeerTable, Rib, RibGeneric, Change, Message}
 use Rattle.page_spec.specs.contracts.Kind.{the_type}
 use Rattle.write_spec.specs.Only.{writer, unreads, only_sub}
+use Rattle.std.specs.Prelude.{Err}
 
 or_first : (n m : ℕ) → 0 < n → n ≡ or_else n m
 or_first zero m h = absurd (omega arith)
@@ -52,8 +52,8 @@ tagged w = cond (leb 7 w) 1 (cond (eqb w 0) 0 (suc w))
 pub unread_tag : (micro : ℕ) → tagged (unreads micro) ≡ 1
 unread_tag micro = rw (le-leb 7 (7 + micro) (omega arith))
 
-has_tag : (k : Kind) → tagged (writer k) ≡ tag_of the_type k
-has_tag (Refused n p) = refl
+has_tag : (k : Chosen) → tagged (writer k) ≡ tag_of the_type k
+has_tag (Err why) = refl
 has_tag (Unread micro) = unread_tag micro
 has_tag (TableDump size) = refl
 has_tag PeerTable = refl
@@ -63,18 +63,18 @@ has_tag (Change micro w) = refl
 has_tag (Message micro w) = refl
 
 -- a kind whose tag is one of ts is not of the writer w, whose kinds have the tag t: the `else` of a `let`
-pub not_own : (ts : List ℕ) (w t : ℕ) (k : Kind) → tagged w ≡ t → T (not (has_key ts t)) → OneOf ts (tag_of the_type k) → eqb (writer k) w ≡ false
+pub not_own : (ts : List ℕ) (w t : ℕ) (k : Chosen) → tagged w ≡ t → T (not (has_key ts t)) → OneOf ts (tag_of the_type k) → eqb (writer k) w ≡ false
 not_own ts w t k e m h = ne_eqb (writer k) w (λ d. miss ts t m (rw (sym (has_tag k) ∙ ap tagged d ∙ e) at h))
 
 -- ---- the header: w is the writer, k the record's kind, n the number for the header's fields
 
-module _ (longest w : ℕ) (st : St) (g : Given) (k : Kind) (n : ℕ) (listed : 0 < w) (typed : large 2 g.type ≡ 0) (chosen : kind g.type g.sub ≡ k)
+module _ (longest w : ℕ) (st : St) (g : Given) (k : Chosen) (n : ℕ) (listed : 0 < w) (typed : large 2 g.type ≡ 0) (chosen : kind g.type g.sub ≡ k)
     (judged : n ≡ or_else (large 4 g.stamp) (large 2 g.sub)) where
   -- its own kinds, and those that it does not list, have a Type that is listed
-  own_typed : (b : Bool) (k : Kind) → eqb (writer k) w ≡ b → type_refusal (layout_for longest (choose b k unlisted)) ≡ 0
+  own_typed : (b : Bool) (k : Chosen) → eqb (writer k) w ≡ b → type_refusal (layout_for longest (choose b k unlisted)) ≡ 0
   unfolding layout_for choose
   own_typed false k e = refl
-  own_typed true (Refused m p) e = let q = ne_eqb 0 w (λ z. omega arith) in cc
+  own_typed true (Err why) e = let q = ne_eqb 0 w (λ z. omega arith) in cc
   own_typed true (Unread micro) e = refl
   own_typed true (TableDump size) e = refl
   own_typed true PeerTable e = refl
@@ -83,7 +83,7 @@ module _ (longest w : ℕ) (st : St) (g : Given) (k : Kind) (n : ℕ) (listed : 
   own_typed true (Change micro w) e = refl
   own_typed true (Message micro w) e = refl
 
-  body : Kind → ℕ
+  body : Chosen → ℕ
   body k = body_refusal (plan st (layout_for longest k)) g.values g.tail
 
   turns : (b : Bool) → eqb (writer k) w ≡ b → or_else n (body (choose b k unlisted)) ≡ fields_refusal (only_sub w longest) st g

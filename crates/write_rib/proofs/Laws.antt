@@ -13,9 +13,7 @@ use Rattle.form_laws.proofs.Octets.{length-to_be}
 use Rattle.octets_spec.specs.Over.{over}
 use Rattle.octets_laws.proofs.Over.{more}
 use Rattle.page_spec.specs.Rib.{entry_rest, entry}
-use Rattle.record_spec.specs.Table.{state_of}
-use Rattle.record_spec.specs.declared.Table.{Table}
-use Rattle.record_spec.specs.declared.Table.TheVariants.{Absent, Holds}
+use Rattle.record_spec.specs.Table.{state_of, Table, Absent, Holds}
 use Rattle.write_spec.specs.Givens.{rib_given, rib_generic_given}
 use Rattle.write_laws.proofs.Laid.{none, number, octets}
 use Rattle.write_laws.proofs.Turns.{front_stops, front-passes}

@@ -4,8 +4,8 @@ use Rattle.form_spec.specs.Put.{Given, octets, record_refusal}
 use Rattle.form_spec.specs.Shape.{Layout, St}
 use Rattle.form_spec.specs.Words.{choose}
 use Rattle.room_spec.specs.Room.{written, holds, Answers}
-use Rattle.room_spec.specs.declared.Written.{Written}
-use Rattle.room_spec.specs.declared.Written.TheVariants.{Octets, Refused}
+use Rattle.room_spec.specs.Written.{Written, Octets}
+use Rattle.form_spec.specs.Refusal.{refused}
 
 -- the promises of every writer: a record's refusal has the place 0
 abbrev pub writer_answer : (layout : ℕ → ℕ → Layout) (st : St) (g : Given) (out : List ℕ) → Written
@@ -26,6 +26,6 @@ capped n = cond (ltb n (2 ^ 64)) n 18446744073709551615
 
 unfoldable pub verdict_of : (refused size room : ℕ) → Written
 verdict_of zero size room =
-    choose (ltb 4294967295 size) (Refused 6 0)
-    (choose (ltb room (12 + size)) (Refused 15 0) (Octets (12 + size)))
-verdict_of (suc n) size room = Refused (suc n) 0
+    choose (ltb 4294967295 size) (refused 6 0)
+    (choose (ltb room (12 + size)) (refused 15 0) (Octets (12 + size)))
+verdict_of (suc n) size room = refused (suc n) 0

@@ -12,27 +12,27 @@ use Rattle.form_spec.specs.Put.{carried, lay, message, refusal, body_refusal, ty
 use Rattle.form_spec.specs.Shape.{no_table, plan}
 use Rattle.form_spec.specs.Words.{choose}
 use Rattle.page_spec.specs.Layout.{stamped, layout_for}
-use Rattle.page_spec.specs.declared.Kind.{Kind}
-use Rattle.page_spec.specs.declared.Kind.TheVariants.{Refused, Unread}
+use Rattle.page_spec.specs.Chosen.{Chosen, Unread}
 use Rattle.write_spec.specs.Times.{micro_size, micros}
 use Rattle.write_spec.specs.Only.{writer, unreads}
 use Rattle.write_spec.specs.Givens.{unread_given}
 use Rattle.write_laws.proofs.Answers.{micros_long}
 use Rattle.write_spec.specs.declared.Time.{Time}
+use Rattle.form_spec.specs.Refusal.{refused}
 
 -- ---- whose a kind is
 
 -- unread contents behind other microseconds
-pub other_micro : (m n : ℕ) (k : Kind) → k ≡ Unread n → (n ≡ m → ⊥) → eqb (writer k) (unreads m) ≡ false
+pub other_micro : (m n : ℕ) (k : Chosen) → k ≡ Unread n → (n ≡ m → ⊥) → eqb (writer k) (unreads m) ≡ false
 other_micro m n k e d = rw e (ne_eqb (7 + n) (7 + m) (λ q. d (omega arith)))
 
 module _ (longest : ℕ) where
   -- r is the kind k, as code found it
-  pub not_unread : (m : ℕ) (r k : Kind) → r ≡ k → eqb (writer r) (unreads m) ≡ false → type_refusal (layout_for longest (choose (eqb (writer k) (unreads m)) k (Refused 3 4))) ≡ 3
+  pub not_unread : (m : ℕ) (r k : Chosen) → r ≡ k → eqb (writer r) (unreads m) ≡ false → type_refusal (layout_for longest (choose (eqb (writer k) (unreads m)) k (refused 3 4))) ≡ 3
   unfolding choose layout_for
   not_unread m r k s e = let d = rw s at e in rw d
 
-  pub is_unread : (m n : ℕ) (r k : Kind) → r ≡ k → r ≡ Unread n → n ≡ m → layout_for longest (choose (eqb (writer k) (unreads m)) k (Refused 3 4)) ≡ layout_for longest (Unread m)
+  pub is_unread : (m n : ℕ) (r k : Chosen) → r ≡ k → r ≡ Unread n → n ≡ m → layout_for longest (choose (eqb (writer k) (unreads m)) k (refused 3 4)) ≡ layout_for longest (Unread m)
   unfolding choose
   is_unread m n r k s e d = let q : k ≡ Unread n = sym s ∙ e in rw (q, d, eq-eqb (7 + m) (7 + m) refl)
 

@@ -1,7 +1,7 @@
 -- `accept::accept` meets its contract.
 use mathlib.Core.Path.{◌≡◌}
 use Rattle.page_spec.specs.Layout.{kind}
-use Rattle.page_spec.specs.declared.Kind.{Kind}
+use Rattle.page_spec.specs.Chosen.{Chosen}
 use Rattle.record_spec.specs.One.{shown_as, whole_record}
 use Rattle.accept_spec.specs.Sure.{Sure, micro_octets}
 use Rattle.accept_spec.specs.declared.Accepted.{Accepted}
@@ -13,7 +13,7 @@ use Rattle.accept.proofs.accept.Goals.{After-number-subtype}
 use Rattle.accept.proofs.accept.Goals as goal
 
 -- the answer for the layout that type and subtype choose is the record's
-leaf : (c : After-number-subtype) (k : Kind) (r : Accepted) → let a = c.args in
+leaf : (c : After-number-subtype) (k : Chosen) (r : Accepted) → let a = c.args in
     kind c.number-ty.result c.number-subtype.result ≡ k
     → Sure a.m.now a.t (shown_as a.longest a.t a.m.now k) r
     → Sure a.m.now a.t (whole_record a.longest a.t a.m.now) r

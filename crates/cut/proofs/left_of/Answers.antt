@@ -7,7 +7,7 @@ use lib.ListN.{length}
 use borrow.Author.Rules.{rules}
 use borrow.Author.Tests.{leb-true, leb-false}
 use Rattle.octets_spec.specs.Over.{over}
-use Rattle.room_spec.specs.declared.Written.TheVariants.{Octets}
+use Rattle.room_spec.specs.Written.{Octets}
 use Rattle.room_laws.proofs.Room.{fits-laid, long}
 use Rattle.cut_laws.proofs.Laid.{laid_so}
 use Rattle.cut_spec.specs.Answer.{left_of}

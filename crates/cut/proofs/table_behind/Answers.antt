@@ -5,7 +5,7 @@ use Prim.Native.Nat.{◌+◌}
 use native.Mathlib.Omega.{arith}
 use Rattle.form_spec.specs.Octets.{Octets}
 use Rattle.form_laws.proofs.Octets.{octets_of_lem}
-use Rattle.record_spec.specs.declared.Shown.{Shown}
+use Rattle.record_spec.specs.Shown.{Shown}
 use Rattle.look_spec.specs.Field.{Told, shown, Good, Counted}
 use Rattle.look_spec.specs.Sort.{sort_of, is_table}
 use Rattle.look_laws.proofs.Sort.{table_sort}

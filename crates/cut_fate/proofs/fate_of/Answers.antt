@@ -5,7 +5,7 @@ use mathlib.Core.Logic.{◌⊎◌, inl, inr}
 use Prim.Native.Nat.{ℕ, ◌<◌}
 use native.Mathlib.Omega.{arith}
 use lib.Dec.{leb, ltb}
-use Rattle.record_spec.specs.declared.Shown.{Shown}
+use Rattle.record_spec.specs.Shown.{Shown}
 use Rattle.page_spec.specs.Layout.{finer}
 use Rattle.look_spec.specs.Sort.{unread, sort_of, sort_by}
 use Rattle.look_spec.specs.Field.{type_of, subtype_of, time_of, peer_of, shown, Is, Shows}

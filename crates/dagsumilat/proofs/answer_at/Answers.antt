@@ -2,9 +2,9 @@
 use mathlib.Core.Path.{◌≡◌, ap, ◌∙◌}
 use Prim.Native.Nat.{ℕ}
 use Rattle.walk_spec.specs.declared.Item.{Item}
-use Rattle.walk_spec.specs.declared.Step.{Step}
-use Rattle.walk_spec.specs.declared.Step.TheVariants as step
-use Rattle.record_spec.specs.declared.Table.{Table}
+use Rattle.walk_spec.specs.Step.{Step}
+use Rattle.walk_spec.specs.Step as step
+use Rattle.record_spec.specs.Table.{Table}
 use Rattle.look_spec.specs.Sort.{sort_of}
 use Rattle.look_spec.specs.Field as field
 use Rattle.look_spec.specs.Field.{shown, Good}

@@ -1,7 +1,7 @@
 -- `dagsumilat::dagsumilat_cut` meets its contract.
 use mathlib.Core.Path.{◌≡◌, sym, ap, ◌∙◌}
 use Rattle.page_spec.specs.Bgp4mp.{longest_message}
-use Rattle.room_spec.specs.declared.Written.{Written}
+use Rattle.room_spec.specs.Written.{Written}
 use Rattle.cut_spec.specs.Answer.{cut_answer}
 use Rattle.dagsumilat_spec.specs.Answers.{cut_words}
 use Rattle.dagsumilat.proofs.dagsumilat_cut.Goals.{After-slice_known-2-1}

@@ -3,16 +3,16 @@ use mathlib.Core.Path.{◌≡◌, ◌∙◌}
 use Rattle.form_spec.specs.Pass.{whole}
 use Rattle.page_spec.specs.Bgp4mp.{session, state_change}
 use Rattle.record_spec.specs.Fields as show
-use Rattle.record_spec.specs.declared.Shown.TheVariants.{Refused}
 use Rattle.record_spec.specs.One.{shown_change}
 use Rattle.record.specs.declared.Stamp.{Stamp}
 use Rattle.record.proofs.Laws.{onward, stamped}
 use Rattle.record.proofs.change.Goals.{After-stamp_at}
 use Rattle.record.proofs.change.Goals as goal
+use Rattle.form_spec.specs.Refusal.{refused}
 
 -- the answer, whatever the header was read as
 answers : (c : After-stamp_at) → let a = c.args in (x : Stamp) → c.stamp_at.result ≡ x
-    → onward a.m.now (λ h at. whole (show.change h) Refused (session a.width state_change) a.m.now at) x ≡ shown_change a.m.now a.micro a.width
+    → onward a.m.now (λ h at. whole (show.change h) refused (session a.width state_change) a.m.now at) x ≡ shown_change a.m.now a.micro a.width
 answers c x q =
     stamped _ _ _ c.stamp_at.ensures q
 

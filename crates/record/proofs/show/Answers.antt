@@ -2,14 +2,14 @@
 use mathlib.Core.Path.{◌≡◌}
 use native.Mathlib.Omega.{arith}
 use Rattle.page_spec.specs.Sane.{Sane}
-use Rattle.page_spec.specs.declared.Kind.{Kind}
+use Rattle.page_spec.specs.Chosen.{Chosen}
 use Rattle.record_spec.specs.One.{shown_as}
 use borrow.Author.Rules.{rules}
 use Rattle.record.proofs.show.Goals.{After-shared_slice_known-1}
 use Rattle.record.proofs.show.Goals as goal
 
 -- the kind is sane, as what the match has shown it to be
-sane : (c : After-shared_slice_known-1) (y : Kind) → c.args.k ≡ y → Sane y
+sane : (c : After-shared_slice_known-1) (y : Chosen) → c.args.k ≡ y → Sane y
 sane c y e =
     rw e at c.requires.sane
 

@@ -1,7 +1,7 @@
 -- `record::unread` meets its contract: what stands behind the header and its microseconds.
 use mathlib.Core.Path.{◌≡◌}
 use Rattle.record_spec.specs.Fields as show
-use Rattle.record_spec.specs.declared.Shown.TheVariants.{Good}
+use Rattle.record_spec.specs.Shown.{Good}
 use Rattle.record_spec.specs.declared.Body.TheVariants.{Unread}
 use Rattle.record_spec.specs.One.{shown_unread}
 use Rattle.record.specs.declared.Stamp.{Stamp}

@@ -5,13 +5,13 @@ use Prim.Native.Nat.{ℕ}
 use native.Mathlib.Omega.{arith}
 use Rattle.form_spec.specs.Octets.{Octets}
 use Rattle.form_laws.proofs.Octets.{octets_of_lem}
-use Rattle.record_spec.specs.declared.Shown.{Shown}
+use Rattle.record_spec.specs.Shown.{Shown}
 use Rattle.walk_spec.specs.Steps.{stepped, step_of, step_at}
-use Rattle.walk_spec.specs.declared.Step.TheVariants.{Fault}
 use Rattle.walk_laws.proofs.Goes.{fault_in}
 use Rattle.walk_laws.proofs.Steps.{past_end, step_over}
 use Rattle.walk.proofs.step_with.Goals.{After-read_with}
 use Rattle.walk.proofs.step_with.Goals as goal
+use Rattle.form_spec.specs.Refusal.{refused}
 
 -- the step over what was shown
 over : (c : After-read_with) → let a = c.args in (y : Shown) → c.read_with.result ≡ y → step_of a.t a.at y ≡ step_at a.longest a.t a.d.now a.at
@@ -27,7 +27,7 @@ overflow_add-place c =
     let a = c.args in
     let d : List ℕ = a.d.now in
     let oc : Octets d = octets_of_lem d (λ k. omega (arith, c.shared_slice_known-1.given k)) in
-    let f : step_at a.longest a.t d a.at ≡ Fault _ _ = sym (over (goal.at.overflow_add-place c).After-read_with _ c.in-Refused.is) in
+    let f : step_at a.longest a.t d a.at ≡ refused _ _ = sym (over (goal.at.overflow_add-place c).After-read_with _ c.in-Refused.is) in
     let i = fault_in a.longest d oc a.at (omega arith) a.t _ _ f in
     omega (arith, i.1)
 

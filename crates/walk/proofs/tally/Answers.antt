@@ -9,16 +9,15 @@ use lib.Dec.{eqb}
 use lib.ListN.{length, drop, length-map}
 use Rattle.form_spec.specs.Octets.{Octets}
 use Rattle.form_laws.proofs.Octets.{octets_of_lem}
-use Rattle.record_spec.specs.declared.Table.{Table}
-use Rattle.record_spec.specs.declared.Shown.{Shown}
+use Rattle.record_spec.specs.Table.{Table}
+use Rattle.record_spec.specs.Shown.{Shown}
 use Rattle.record_spec.specs.One.{read_one}
 use Rattle.look_spec.specs.Field.{Told}
 use Rattle.walk_spec.specs.Steps.{step_at}
-use Rattle.walk_spec.specs.declared.Step.{Step}
+use Rattle.walk_spec.specs.Step.{Step}
 use Rattle.walk_laws.proofs.Ahead.{ends, faults}
 use Rattle.report_spec.specs.declared.Notice.TheVariants.{Change}
-use Rattle.report_spec.specs.declared.Last.{Last}
-use Rattle.report_spec.specs.declared.Last.TheVariants.{Absent, Was}
+use Rattle.report_spec.specs.Last.{Last, Absent, Was}
 use Rattle.report_spec.specs.Own.{following, broken}
 use Rattle.report_spec.specs.Notice.{InStates}
 use Rattle.report_spec.specs.Tally.{heeded}

@@ -8,7 +8,7 @@ use Rattle.form_spec.specs.Put.{Given, body_refusal, fields_refusal}
 use Rattle.form_spec.specs.Shape.{no_table, plan}
 use Rattle.form_spec.specs.Words.{choose}
 use Rattle.page_spec.specs.Layout.{kind13, kind, layout_for}
-use Rattle.page_spec.specs.declared.Kind.TheVariants.{PeerTable}
+use Rattle.page_spec.specs.Chosen.{PeerTable}
 use Rattle.octets_laws.proofs.PutRules.{is_large, not_large}
 use Rattle.page_spec.specs.Peers.{peer, table_head}
 use Rattle.write_spec.specs.Only.{only_sub, peer_tables}

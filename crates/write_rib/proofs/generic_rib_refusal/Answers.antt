@@ -8,7 +8,7 @@ use Rattle.form_spec.specs.Shape.{entries, plan}
 use Rattle.form_spec.specs.Words.{choose, in_range}
 use Rattle.page_spec.specs.Layout.{kind13, kind, layout_for}
 use Rattle.page_spec.specs.Rib.{generic_head, entry_rest}
-use Rattle.page_spec.specs.declared.Kind.TheVariants.{RibGeneric}
+use Rattle.page_spec.specs.Chosen.{RibGeneric}
 use Rattle.record_spec.specs.Table.{state_of}
 use Rattle.write_spec.specs.Only.{only_sub, generic_ribs}
 use Rattle.write_spec.specs.Givens.{rib_generic_given}

@@ -9,7 +9,7 @@ use Rattle.form_spec.specs.Shape.{entries, plan}
 use Rattle.form_spec.specs.Words.{choose}
 use Rattle.page_spec.specs.Layout.{kind13, kind, layout_for}
 use Rattle.page_spec.specs.Rib.{rib_head, entry_rest}
-use Rattle.page_spec.specs.declared.Kind.TheVariants.{Rib}
+use Rattle.page_spec.specs.Chosen.{Rib}
 use Rattle.record_spec.specs.Table.{state_of}
 use Rattle.octets_laws.proofs.PutRules.{number_fits, number_large}
 use Rattle.page_laws.proofs.Widths.{sane13}

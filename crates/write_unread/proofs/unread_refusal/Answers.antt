@@ -6,7 +6,7 @@ use lib.Dec.{leb}
 use Rattle.form_spec.specs.Fmt.{end}
 use Rattle.form_spec.specs.Put.{large, type_refusal, fields_refusal}
 use Rattle.page_spec.specs.Layout.{layout_for}
-use Rattle.page_spec.specs.declared.Kind.TheVariants.{Unread}
+use Rattle.page_spec.specs.Chosen.{Unread}
 use Rattle.octets_laws.proofs.PutRules.{is_large, not_large}
 use Rattle.write_spec.specs.Times.{stamp_of, micro_size}
 use Rattle.write_spec.specs.Only.{unreads, only_type}
