@@ -13,7 +13,7 @@ use Rattle.form_spec.specs.Words.{choose, num, skip, part, must, fail, checked, 
 use Rattle.form_spec.specs.Pass.{Seen, note, pass}
 pub use Rattle.form_laws.proofs.Range.{inside, below, above}
 use Rattle.octets_spec.specs.Be.{num_at}
-use Rattle.octets_spec.specs.Field.{Value, field_at, room_at}
+use Rattle.octets_spec.specs.Field.{Num, field_at, room_at}
 use Rattle.std.specs.Prelude.{Result, Ok, Err}
 use Rattle.form_spec.specs.Refusal.{refused}
 use Rattle.form_spec.specs.declared.Fault.{Fault}
@@ -30,11 +30,11 @@ abbrev told : Result (ℕ × ℕ) Fault → ℕ × ℕ
 told (Ok r) = r
 told (Err why) = (0, 0)
 
-pub is_read : (m : List ℕ) (i w v a : ℕ) → Value v a ≡ field_at m i w → Read m i w v a
+pub is_read : (m : List ℕ) (i w v a : ℕ) → Num v a ≡ field_at m i w → Read m i w v a
 unfolding field_at choose
 is_read m i w v a p = go (ltb (length m) (i + w)) refl p
   where
-    go : (b : Bool) → ltb (length m) (i + w) ≡ b → Value v a ≡ choose b (refused 5 i) (Value (num_at m i w) (i + w)) → Read m i w v a
+    go : (b : Bool) → ltb (length m) (i + w) ≡ b → Num v a ≡ choose b (refused 5 i) (Num (num_at m i w) (i + w)) → Read m i w v a
     go true t h = let z : ◌≡◌ {A = ℕ} 0 1 = cc in absurd (omega arith)
     go false t h = record { there = ltb-false (length m) (i + w) t; value = ap (λ r. (told r).0) h; next = ap (λ r. (told r).1) h }
 
@@ -48,7 +48,7 @@ pub is_short : (m : List ℕ) (i w : ℕ) (why : Fault) → Err why ≡ field_at
 unfolding field_at choose
 is_short m i w why p = go (ltb (length m) (i + w)) refl p
   where
-    go : (b : Bool) → ltb (length m) (i + w) ≡ b → Err why ≡ choose b (refused 5 i) (Value (num_at m i w) (i + w)) → Short m i w why
+    go : (b : Bool) → ltb (length m) (i + w) ≡ b → Err why ≡ choose b (refused 5 i) (Num (num_at m i w) (i + w)) → Short m i w why
     go true t h = record { lacks = ltb-true (length m) (i + w) t; number = (cc); place = (cc) }
     go false t h = let z : ◌≡◌ {A = ℕ} 0 1 = cc in absurd (omega arith)
 
@@ -92,7 +92,7 @@ module _ {A : Type 0} (to : List Seen → ℕ → ℕ → A) (fault : ℕ → �
   long x w b i k h = rw (le-ltb _ _ h)
 
   -- a number that is there, and one that is not
-  pub num_there : (x w i v a : ℕ) (k : ℕ → Fmt) (y : A) → Value v a ≡ field_at m i w
+  pub num_there : (x w i v a : ℕ) (k : ℕ → Fmt) (y : A) → Num v a ≡ field_at m i w
       → y ≡ pass (λ fs. to (note x i w a v fs)) fault (k v) m a → y ≡ pass to fault (num x w k) m i
   unfolding num num_at
   num_there x w i v a k y p h =
@@ -137,7 +137,7 @@ module _ {A : Type 0} (to : List Seen → ℕ → ℕ → A) (fault : ℕ → �
   wrong zero w i f l = absurd (omega (arith, ltb-true 0 0 l))
   wrong (suc n) w i f l = refl
 
-  pub must_no : (b : Bool) (n w i d v : ℕ) (f : Fmt) (y : A) → b ≡ false → Value v i ≡ field_at m d w → ltb 0 n ≡ true → y ≡ fault n d → y ≡ pass to fault (must b n w f) m i
+  pub must_no : (b : Bool) (n w i d v : ℕ) (f : Fmt) (y : A) → b ≡ false → Num v i ≡ field_at m d w → ltb 0 n ≡ true → y ≡ fault n d → y ≡ pass to fault (must b n w f) m i
   unfolding must
   must_no b n w i d v f y e p l h =
       let s = is_read m d w v i p in
@@ -152,7 +152,7 @@ module _ {A : Type 0} (to : List Seen → ℕ → ℕ → A) (fault : ℕ → �
       let g : i - w ≡ d = omega arith in
       h ∙ rw e (rw g at (wrong n w i f l))
 
-  pub fails : (n w i d v : ℕ) (y : A) → Value v i ≡ field_at m d w → ltb 0 n ≡ true → y ≡ fault n d → y ≡ pass to fault (fail n w) m i
+  pub fails : (n w i d v : ℕ) (y : A) → Num v i ≡ field_at m d w → ltb 0 n ≡ true → y ≡ fault n d → y ≡ pass to fault (fail n w) m i
   unfolding fail
   fails n w i d v y p l h =
       let s = is_read m d w v i p in
@@ -165,13 +165,13 @@ module _ {A : Type 0} (to : List Seen → ℕ → ℕ → A) (fault : ℕ → �
 
 -- a number with its own check: right, wrong, not there
 module _ {A : Type 0} (to : List Seen → ℕ → ℕ → A) (fault : ℕ → ℕ → A) (m : List ℕ) where
-  pub right : (x w n i v a : ℕ) (ok : ℕ → Bool) (k : ℕ → Fmt) (y : A) → Value v a ≡ field_at m i w → ok v ≡ true
+  pub right : (x w n i v a : ℕ) (ok : ℕ → Bool) (k : ℕ → Fmt) (y : A) → Num v a ≡ field_at m i w → ok v ≡ true
       → y ≡ pass (λ fs. to (note x i w a v fs)) fault (k v) m a → y ≡ pass to fault (checked x w ok n k) m i
   unfolding checked num must
   right x w n i v a ok k y p e h =
       num_there to fault m x w i v a (λ v. must (ok v) n w (k v)) y p (must_yes (λ fs. to (note x i w a v fs)) fault m (ok v) n w a (k v) y e h)
 
-  pub not_right : (x w n i v a : ℕ) (ok : ℕ → Bool) (k : ℕ → Fmt) (y : A) → Value v a ≡ field_at m i w → ok v ≡ false
+  pub not_right : (x w n i v a : ℕ) (ok : ℕ → Bool) (k : ℕ → Fmt) (y : A) → Num v a ≡ field_at m i w → ok v ≡ false
       → ltb 0 n ≡ true → y ≡ fault n i → y ≡ pass to fault (checked x w ok n k) m i
   unfolding checked num must
   not_right x w n i v a ok k y p e l h =

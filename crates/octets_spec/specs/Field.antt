@@ -6,12 +6,12 @@ use Rattle.form_spec.specs.declared.Fault.{Fault}
 use Rattle.octets_spec.specs.Be.{num_at}
 
 -- a number that was read, and the place after it
-pattern abbrev pub Value : (number next : ℕ) → Result (ℕ × ℕ) Fault
-Value v a = Ok (v, a)
+pattern abbrev pub Num : (number next : ℕ) → Result (ℕ × ℕ) Fault
+Num v a = Ok (v, a)
 
 -- the w octets at `at`
 unfoldable pub field_at : List ℕ → ℕ → ℕ → Result (ℕ × ℕ) Fault
-field_at m at w = choose (ltb (length m) (at + w)) (refused 5 at) (Value (num_at m at w) (at + w))
+field_at m at w = choose (ltb (length m) (at + w)) (refused 5 at) (Num (num_at m at w) (at + w))
 
 -- past n octets
 unfoldable pub room_at : List ℕ → ℕ → ℕ → Result ℕ Fault

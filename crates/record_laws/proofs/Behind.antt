@@ -17,8 +17,7 @@ use Rattle.form_laws.proofs.Octets.{to_be_at, be_below}
 use Rattle.form_laws.proofs.Pass.{seen}
 use Rattle.form_laws.proofs.Whole.{number-find}
 use Rattle.octets_spec.specs.Be.{num_at}
-use Rattle.octets_spec.specs.Field.{field_at}
-use Rattle.octets_spec.specs.declared.Num.TheVariants as one
+use Rattle.octets_spec.specs.Field.{Num, field_at}
 use Rattle.page_spec.specs.Names.{microseconds}
 use Rattle.page_spec.specs.Bgp4mp.{session, state_change, message}
 use Rattle.page_spec.specs.Layout.{kind, layout_for, stamped, finer}
@@ -50,7 +49,7 @@ pub behind_micro : (m : List ℕ) (k : ℕ → ℕ → Shown) → behind (micro_
 unfolding behind micro_at field_at num_at choose
 behind_micro m k = go (ltb (length m) 16)
   where
-    go : (b : Bool) → behind (choose b one.Short (one.Value (be (take 4 (drop 12 m))) 16)) k ≡ cond b (refused 5 12) (k (be (take 4 (drop 12 m))) 16)
+    go : (b : Bool) → behind (choose b (refused 5 12) (Num (be (take 4 (drop 12 m))) 16)) k ≡ cond b (refused 5 12) (k (be (take 4 (drop 12 m))) 16)
     go true = refl
     go false = refl
 

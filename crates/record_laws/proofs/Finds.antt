@@ -12,9 +12,10 @@ use Rattle.page_spec.specs.Peers.{peer}
 use Rattle.page_spec.specs.Rib.{entry}
 use Rattle.record_spec.specs.Fields as show
 use Rattle.record_spec.specs.declared.Peer.{Peer}
-use Rattle.record_spec.specs.declared.Peer.TheVariants as peers
 use Rattle.record_spec.specs.declared.Entry.{Entry}
-use Rattle.record_spec.specs.declared.Entry.TheVariants as entries
+use Rattle.std.specs.Prelude.{Result, Ok}
+use Rattle.form_spec.specs.declared.Fault.{Fault}
+use Rattle.form_spec.specs.Refusal.{refused}
 use Rattle.record_spec.specs.Answer.{peer_fault, peer_end, entry_fault, entry_end}
 use Rattle.record_spec.specs.Items.{peer_at, entry_at, end_in, Finds}
 
@@ -30,10 +31,10 @@ module _ {A : Type 0} (to : List Seen → ℕ → ℕ → A) (stop : ℕ → ℕ
       go (good c q) = there _ (at + length (join c)) (at + length (join c) - over_at f c)
 
 module _ (m : List ℕ) (at : ℕ) where
-  pub peer-finds : (r : Peer) → r ≡ peer_at m at → (r ≡ peer_at m at) × Finds peer m at (peer_fault r) (peer_end r)
+  pub peer-finds : (r : Result Peer Fault) → r ≡ peer_at m at → (r ≡ peer_at m at) × Finds peer m at (peer_fault r) (peer_end r)
   unfolding Opens peer num
-  peer-finds r e = (e, rw e (finds show.peer peers.Bad peer_fault peer_end (λ fs a p. (refl, refl)) (λ n p. (refl, refl)) peer tt m at))
+  peer-finds r e = (e, rw e (finds show.peer refused peer_fault peer_end (λ fs a p. (refl, refl)) (λ n p. (refl, refl)) peer tt m at))
 
-  pub entry-finds : (n : ℕ) (r : Entry) → r ≡ entry_at m at n → (r ≡ entry_at m at n) × Finds (entry n) m at (entry_fault r) (entry_end r)
+  pub entry-finds : (n : ℕ) (r : Result Entry Fault) → r ≡ entry_at m at n → (r ≡ entry_at m at n) × Finds (entry n) m at (entry_fault r) (entry_end r)
   unfolding Opens entry checked
-  entry-finds n r e = (e, rw e (finds show.entry entries.Bad entry_fault entry_end (λ fs a p. (refl, refl)) (λ n p. (refl, refl)) (entry n) tt m at))
+  entry-finds n r e = (e, rw e (finds show.entry refused entry_fault entry_end (λ fs a p. (refl, refl)) (λ n p. (refl, refl)) (entry n) tt m at))

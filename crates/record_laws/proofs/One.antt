@@ -12,7 +12,8 @@ use Rattle.form_spec.specs.Octets.{Octets, be}
 use Rattle.form_spec.specs.Fmt.{bad, good, bind, refuse_if, read}
 use Rattle.form_spec.specs.Words.{choose}
 use Rattle.form_spec.specs.Body.{read_body}
-use Rattle.form_spec.specs.Shape.{St, plan}
+use Rattle.form_spec.specs.Shape.{refuse, St, plan}
+use Rattle.std.specs.Prelude.{Err}
 use Rattle.form_spec.specs.Record.{header, read_rec}
 use Rattle.form_laws.proofs.Octets.{octets-take}
 use Rattle.octets_spec.specs.Be.{num_at}
@@ -46,10 +47,15 @@ module _ (longest : ℕ) (s m q : List ℕ) (l : Stands s m q (num_at m 8 4)) (t
   abbrev len : ℕ
   len = num_at m 8 4
 
+  -- a header that is refused
+  by_header : (n p : ℕ) → 0 < n → p ≤ 12 → Reads longest s m q t y u len l (read_body (plan st (refuse n (12 - p))) 12 (drop 12 m)) (refused n p)
+  unfolding read_body plan read
+  by_header zero p h i = absurd (omega (arith, h))
+  by_header (suc n) p h i = let d : p ≡ 12 - (12 - p) = omega (arith, i) in ap (refused (suc n)) d
+
   by_kind : (k : Chosen) → Says y u k → kind y u ≡ k → Reads longest s m q t y u len l (read_body (plan st (layout_for longest k)) 12 (drop 12 m)) (shown_as longest table m k)
   unfolding shown_as read_body plan layout_for read
-  by_kind (refused zero p) h e = absurd (omega (arith, h.0))
-  by_kind (refused (suc n) p) h e = let d : p ≡ 12 - (12 - p) = omega (arith, h.1) in ap (refused (suc n)) d
+  by_kind (Err why) h e = by_header why.number why.place h.0 h.1
   by_kind (chosen.Unread micro) h e = unread_agrees longest s m q t y u len l st micro h e
   by_kind (chosen.TableDump size) h e = table_dump_agrees longest s m q t y u len l st size h e
   by_kind chosen.PeerTable h e = table-agrees longest s m q t y u len l st h.0 h.1 e

@@ -2,10 +2,10 @@
 use mathlib.Core.Path.{◌≡◌, refl}
 use mathlib.Core.Logic.{inl, inr}
 use mathlib.Core.List.{List}
-use Prim.Native.Nat.{ℕ, zero, suc, ◌+◌, ◌<◌}
+use Prim.Native.Nat.{ℕ, zero, suc, ◌+◌, ◌-◌, ◌<◌}
 use native.Mathlib.Omega.{arith}
 use Rattle.form_spec.specs.Octets.{Octets}
-use Rattle.form_spec.specs.Shape.{St, no_table, with_peers, plan}
+use Rattle.form_spec.specs.Shape.{refuse, St, no_table, with_peers, plan}
 use Rattle.form_spec.specs.Put.{Value, Tail, nothing, carried, items, refusal, body_refusal}
 use Rattle.form_spec.specs.Gives.{Shaped}
 use Rattle.page_spec.specs.Layout.{layout_for}
@@ -13,7 +13,7 @@ use Rattle.page_spec.specs.Chosen.{Chosen, Unread, TableDump, PeerTable, Rib, Ri
 use Rattle.write_spec.specs.Only.{writer}
 use Rattle.record_laws.specs.Forms.{TailFor}
 use Rattle.page_laws.proofs.Choice.{Says}
-use Rattle.form_spec.specs.Refusal.{refused}
+use Rattle.std.specs.Prelude.{Err}
 
 module _ (n : ℕ) where
   no_tail : (t : Tail) → (6 < n → ⊥) → (1 < n → n < 5 → ⊥) → TailFor n t → t ≡ nothing
@@ -38,8 +38,12 @@ module _ (n : ℕ) where
 pub tail-shaped : (longest : ℕ) (st : St) (y u : ℕ) (k : Chosen) → Says y u k → (vs : List Value) (t : Tail) → body_refusal (plan st (layout_for longest k)) vs t ≡ 0 → TailFor (writer k) t
     → Shaped (plan st (layout_for longest k)) t
 unfolding plan layout_for body_refusal refusal
-tail-shaped longest st y u (refused zero p) s vs t e h = absurd (omega (arith, s.0))
-tail-shaped longest st y u (refused (suc n) p) s vs t e h = absurd (omega arith)
+tail-shaped longest st y u (Err why) s vs t e h = never why.number (12 - why.place) s.0 e
+  where
+    -- a fault's number is none that passes
+    never : (n b : ℕ) → 0 < n → body_refusal (plan st (refuse n b)) vs t ≡ 0 → Shaped (plan st (refuse n b)) t
+    never zero b s e = absurd (omega (arith, s))
+    never (suc n) b s e = absurd (omega arith)
 tail-shaped longest st y u (Unread micro) s vs t e h = contents (7 + micro) t (omega arith) h
 tail-shaped longest st y u (TableDump size) s vs t e h = no_tail 1 t (λ a. omega arith) (λ a b. omega arith) h
 tail-shaped longest st y u PeerTable s vs t e h = counted 2 t (omega arith) (omega arith) h

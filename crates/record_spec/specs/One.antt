@@ -3,7 +3,7 @@ use Rattle.std.specs.Prelude.{List, ℕ, ◌+◌, ◌-◌, eqb, ltb, length, tak
 use Rattle.form_spec.specs.Pass.{whole}
 use Rattle.form_spec.specs.Words.{◌$◌, choose}
 use Rattle.octets_spec.specs.Be.{num_at}
-use Rattle.octets_spec.specs.Field.{Value, field_at}
+use Rattle.octets_spec.specs.Field.{Num, field_at}
 use Rattle.form_spec.specs.declared.Fault.{Fault}
 use Rattle.page_spec.specs.Bgp4mp.{session, state_change, message}
 use Rattle.page_spec.specs.Rib.{rib, rib_generic}
@@ -25,11 +25,11 @@ header m u = record { timestamp = num_at m 0 4; ty = num_at m 4 2; subtype = num
 
 -- microseconds of so many octets, and where the message goes on behind them; 0 is none of them
 unfoldable pub micro_at : List ℕ → ℕ → Result (ℕ × ℕ) Fault
-micro_at m micro = choose (eqb micro 0) (Value 0 12) (field_at m 12 micro)
+micro_at m micro = choose (eqb micro 0) (Num 0 12) (field_at m 12 micro)
 
 -- where they are not all there the record is refused, else k goes on
 unfoldable pub behind : Result (ℕ × ℕ) Fault → (ℕ → ℕ → Shown) → Shown
-behind (Value u at) k = k u at
+behind (Num u at) k = k u at
 behind (Err why) k = Err why
 
 -- a RIB record without a table: 12, at the Subtype
