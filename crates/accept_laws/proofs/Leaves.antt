@@ -12,8 +12,7 @@ use Rattle.form_spec.specs.Fmt.{Fmt}
 use Rattle.form_spec.specs.Words.{choose, in_range}
 use Rattle.form_spec.specs.Pass.{Seen, number_of, whole, times}
 use Rattle.octets_spec.specs.Be.{num_at}
-use Rattle.octets_spec.specs.Field.{field_at}
-use Rattle.octets_spec.specs.declared.Num.TheVariants.{Value}
+use Rattle.octets_spec.specs.Field.{field_at, Num}
 use Rattle.page_spec.specs.Names.{peer_count}
 use Rattle.page_spec.specs.Bgp4mp.{session, state_change, message}
 use Rattle.octets_laws.proofs.Rules.{inside, above}
@@ -25,7 +24,7 @@ use Rattle.page_spec.specs.Chosen.{Chosen}
 use Rattle.page_spec.specs.Chosen as chosen
 use Rattle.record_spec.specs.Fields as show
 use Rattle.record_spec.specs.declared.Header.{Header}
-use Rattle.record_spec.specs.declared.Table as told
+use Rattle.record_spec.specs.Table as told
 use Rattle.record_spec.specs.Table.{Absent, Holds}
 use Rattle.record_spec.specs.Shown.{Shown, Nothing, Good}
 use Rattle.record_spec.specs.Answer.{fault}
@@ -49,7 +48,7 @@ module _ (longest : ℕ) (m : List ℕ) (t : told.Table) where
       → Leaves m t (whole to refused f m i) t
   whole_leaves to f i h l e r = let p = through m f to refused i r in record { head = h; long = l; step = λ at. rw p.1 (e p.0 at) }
 
-  micro_there : (micro : ℕ) → 12 + micro ≤ length m → (u : ℕ) × (micro_at m micro ≡ Value u (12 + micro))
+  micro_there : (micro : ℕ) → 12 + micro ≤ length m → (u : ℕ) × (micro_at m micro ≡ Num u (12 + micro))
   unfolding micro_at field_at choose
   micro_there zero h = (0, refl)
   micro_there (suc n) h = (num_at m 12 (suc n), rw (ne_eqb (suc n) 0 (λ e. omega arith), le-ltb (length m) (12 + suc n) h))

@@ -3,7 +3,7 @@ use Rattle.std.specs.Prelude.{◌≡◌, Bool, true, cond, List, ℕ, eqb}
 use Rattle.octets_spec.specs.Be.{num_at}
 use Rattle.record_spec.specs.declared.Header.{Header}
 use Rattle.record_spec.specs.Shown.{Shown}
-use Rattle.record_spec.specs.declared.Table as told
+use Rattle.record_spec.specs.Table as told
 use Rattle.record_spec.specs.Table.{Holds}
 use Rattle.walk_spec.specs.Steps.{stepped, step_of}
 use Rattle.accept_spec.specs.declared.Accepted.{Accepted}

@@ -11,7 +11,8 @@ use Rattle.form_spec.specs.Words.{num, skip, checked, tested}
 use Rattle.form_laws.proofs.Pass.{Opens, pass_fits}
 use Rattle.page_spec.specs.Rib.{tiling, attributes, entry}
 use Rattle.record_spec.specs.Fields as show
-use Rattle.record_spec.specs.declared.Entry.TheVariants as entries
+use Rattle.std.specs.Prelude.{Ok}
+use Rattle.form_spec.specs.Refusal.{refused}
 use Rattle.record_spec.specs.Answer.{entry_fault, entry_end}
 use Rattle.record_spec.specs.Items.{Finds, entry_of, Meets}
 use Rattle.record_laws.proofs.Parts.{Parts, by_parts}
@@ -26,10 +27,10 @@ module _ (m : List ℕ) where
   fields-parts at =
       λ i hi o ho l hl x hx a.
       let e : at + length i + length o + length l ≡ at + length (join (i ∷ o ∷ l ∷ [])) = simp length-append (omega arith) in
-      ap (λ (k : ℕ). entries.At (be i) (be o) (record { at = k; size = length x }) a) e
+      ap (λ (k : ℕ). Ok (record { index = be i; originated = be o; attributes = record { at = k; size = length x }; next = a })) e
 
   fields-shown : (at : ℕ) (c : List (List ℕ)) (rest : List ℕ) → at ≤ length m → Fits entry_fields c → join c ++ rest ≡ drop at m → unjudged_at m at ≡ entry_of at c
-  fields-shown at c rest h fit e = pass_fits show.entry entries.Bad entry_fields m at c rest h fit e ∙ by_parts m entry_fields at (EntrySeen m at) (fields-parts at) c rest e fit (at + length (join c))
+  fields-shown at c rest h fit e = pass_fits show.entry refused entry_fields m at c rest h fit e ∙ by_parts m entry_fields at (EntrySeen m at) (fields-parts at) c rest e fit (at + length (join c))
 
 -- an entry that was judged has these fields
 fields_fit : (n : ℕ) (c : List (List ℕ)) → Fits (entry n) c → Fits entry_fields c
@@ -57,4 +58,4 @@ fields_meet m count n at stop its s =
 -- it is found with the number and the place that the reader of these fields gives, wherever it is asked for
 pub unjudged_finds : (m : List ℕ) (at : ℕ) → Finds entry_fields m at (entry_fault (unjudged_at m at)) (entry_end (unjudged_at m at))
 unfolding Opens entry_fields num
-unjudged_finds m at = finds show.entry entries.Bad entry_fault entry_end (λ fs a p. (refl, refl)) (λ n p. (refl, refl)) entry_fields tt m at
+unjudged_finds m at = finds show.entry refused entry_fault entry_end (λ fs a p. (refl, refl)) (λ n p. (refl, refl)) entry_fields tt m at

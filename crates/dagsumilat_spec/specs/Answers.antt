@@ -1,9 +1,8 @@
 -- What an answer array holds after a call: its first words are the answer's, in the order that include/dagsumilat.h gives.
-use Rattle.std.specs.Prelude.{List, [], ◌∷◌, ℕ, suc, set}
+use Rattle.std.specs.Prelude.{List, [], ◌∷◌, ℕ, suc, set, Result, Ok, Err}
+use Rattle.form_spec.specs.declared.Fault.{Fault}
 use Rattle.record_spec.specs.declared.Peer.{Peer}
-use Rattle.record_spec.specs.declared.Peer.TheVariants as peers
 use Rattle.record_spec.specs.declared.Entry.{Entry}
-use Rattle.record_spec.specs.declared.Entry.TheVariants as entries
 use Rattle.walk_spec.specs.declared.Walked.{Walked}
 use Rattle.room_spec.specs.Written.{Written}
 use Rattle.room_spec.specs.Answer as written
@@ -39,11 +38,11 @@ abbrev pub record_words : (array : List ℕ) → RecordAnswer → List ℕ
 record_words a t = words a (t.fault ∷ t.place ∷ t.table ∷ t.time ∷ t.ty ∷ t.subtype ∷ t.length ∷ t.peer ∷ t.items ∷ t.count ∷ [])
 
 -- fault, place, AS, type, BGP ID, where the address lies and its size
-abbrev pub peer_words : (array : List ℕ) → Peer → List ℕ
-peer_words a (peers.Of kind id address number next) = words a (0 ∷ next ∷ number ∷ kind ∷ id ∷ address.at ∷ address.size ∷ [])
-peer_words a (peers.Bad n p) = words a (n ∷ p ∷ 0 ∷ 0 ∷ 0 ∷ 0 ∷ 0 ∷ [])
+abbrev pub peer_words : (array : List ℕ) → Result Peer Fault → List ℕ
+peer_words a (Ok p) = words a (0 ∷ p.next ∷ p.as_number ∷ p.kind ∷ p.id ∷ p.address.at ∷ p.address.size ∷ [])
+peer_words a (Err why) = words a (why.number ∷ why.place ∷ 0 ∷ 0 ∷ 0 ∷ 0 ∷ 0 ∷ [])
 
 -- fault, place, peer index, originated, where the attributes lie and their size
-abbrev pub entry_words : (array : List ℕ) → Entry → List ℕ
-entry_words a (entries.At index originated attributes next) = words a (0 ∷ next ∷ index ∷ originated ∷ attributes.at ∷ attributes.size ∷ [])
-entry_words a (entries.Bad n p) = words a (n ∷ p ∷ 0 ∷ 0 ∷ 0 ∷ 0 ∷ [])
+abbrev pub entry_words : (array : List ℕ) → Result Entry Fault → List ℕ
+entry_words a (Ok e) = words a (0 ∷ e.next ∷ e.index ∷ e.originated ∷ e.attributes.at ∷ e.attributes.size ∷ [])
+entry_words a (Err why) = words a (why.number ∷ why.place ∷ 0 ∷ 0 ∷ 0 ∷ 0 ∷ [])

@@ -12,8 +12,7 @@ use Rattle.form_spec.specs.Fmt.{Fmt, end, test, field}
 use Rattle.form_spec.specs.Words.{choose, num, skip, checked, tested, fail, in_range}
 use Rattle.form_spec.specs.Pass.{Seen, note, number_of, after_of, pass, whole}
 use Rattle.octets_spec.specs.Be.{num_at}
-use Rattle.octets_spec.specs.Field.{field_at}
-use Rattle.octets_spec.specs.declared.Num.TheVariants.{Value, Short}
+use Rattle.octets_spec.specs.Field.{Num, field_at}
 use Rattle.form_laws.proofs.Range.{bounds}
 use Rattle.page_spec.specs.Names.{peer_as, local_as, interface, old_state, new_state, entry_count, peer_count, view, sequence, prefix_octets, prefix_bits, status, originated, peer_address, local_address, collector, view_length, view_name, family, safi}
 use Rattle.page_spec.specs.Bgp4mp.{addresses, session, state, state_change}
@@ -22,7 +21,7 @@ use Rattle.page_spec.specs.Rib.{prefix, entry_list, rib, rib_generic}
 use Rattle.page_spec.specs.Peers.{peer_list, peer_table}
 use Rattle.page_spec.specs.Chosen.{Chosen}
 use Rattle.page_spec.specs.Chosen as chosen
-use Rattle.record_spec.specs.declared.Table as told
+use Rattle.record_spec.specs.Table as told
 use Rattle.record_spec.specs.Table.{Absent, Holds}
 use Rattle.record_spec.specs.Shown.{Shown}
 use Rattle.record_spec.specs.Fields as show
@@ -163,7 +162,7 @@ module _ (m : List ℕ) (P : Shown → Type 0) where
   behind_seen long zero k h = h (omega arith)
   behind_seen long (suc n) k h = rw (ne_eqb (suc n) 0 (λ e. omega arith)) (go (ltb (length m) (12 + suc n)) refl)
     where
-      go : (x : Bool) → ltb (length m) (12 + suc n) ≡ x → Sees P (behind (choose x Short (Value (num_at m 12 (suc n)) (12 + suc n))) k)
+      go : (x : Bool) → ltb (length m) (12 + suc n) ≡ x → Sees P (behind (choose x (with_fault 5 12) (Num (num_at m 12 (suc n)) (12 + suc n))) k)
       go true e = refused 4 12
       go false e = rw (ne_eqb (suc n) 0 (λ z. omega arith)) at (h (ltb-false (length m) (12 + suc n) e))
 

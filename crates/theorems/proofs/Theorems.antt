@@ -65,6 +65,8 @@ use Rattle.record_spec.specs.Table.{Table, Holds, state_of}
 use Rattle.record_spec.specs.Shown.{Shown, Nothing, Good}
 use Rattle.record_spec.specs.declared.Header.{Header}
 use Rattle.record_spec.specs.declared.Peers.{Peers}
+use Rattle.std.specs.Prelude.{Result}
+use Rattle.form_spec.specs.declared.Fault.{Fault}
 use Rattle.record_spec.specs.declared.Peer.{Peer}
 use Rattle.record_spec.specs.declared.Entry.{Entry}
 use Rattle.record_spec.specs.declared.Routes.{Routes}
@@ -318,10 +320,10 @@ module _ (longest : ℕ) where
 
   -- nothing that is met so is a fault
   module _ (m : List ℕ) (n at stop : ℕ) (its : List (List (List ℕ))) where
-    pub met_peers_are_good : (one : ℕ → Peer) → Meets m one peer_end peer_of n at stop its → Each (λ p. peer_fault p ≡ 0) (met one peer_end n at)
+    pub met_peers_are_good : (one : ℕ → Result Peer Fault) → Meets m one peer_end peer_of n at stop its → Each (λ p. peer_fault p ≡ 0) (met one peer_end n at)
     met_peers_are_good one w = item.no_peer_fault m n at stop its one w
 
-    pub met_entries_are_good : (one : ℕ → Entry) → Meets m one entry_end entry_of n at stop its → Each (λ e. entry_fault e ≡ 0) (met one entry_end n at)
+    pub met_entries_are_good : (one : ℕ → Result Entry Fault) → Meets m one entry_end entry_of n at stop its → Each (λ e. entry_fault e ≡ 0) (met one entry_end n at)
     met_entries_are_good one w = item.no_entry_fault m n at stop its one w
 
   -- what the program prints of an accepted dump of at most 65,536 octets: a line for each record, then no fault and the dump's length

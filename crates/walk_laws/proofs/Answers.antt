@@ -1,5 +1,5 @@
 -- What a step over a record says of what was shown there.
-use mathlib.Core.Path.{◌≡◌, refl}
+use mathlib.Core.Path.{◌≡◌, refl, sym, ap}
 use mathlib.Core.Bool.{Bool, true, false}
 use mathlib.Core.List.{List}
 use Prim.Native.Nat.{ℕ, ◌+◌, ◌<◌}
@@ -16,11 +16,17 @@ use Rattle.walk_spec.specs.Step as step
 use Rattle.walk_laws.proofs.Steps.{past_end}
 use Rattle.std.specs.Prelude.{Err}
 
+-- where the next record starts, of a step over one
+abbrev next_in : step.Step → ℕ
+next_in (step.Record i u) = i.next
+next_in step.End = 0
+next_in (Err why) = 0
+
 module _ (t : Table) (at : ℕ) where
   pub over_record : (i : Item) (u : Table) (x : Shown) → step_of t at x ≡ step.Record i u → (fault x ≡ 0) × (i.next ≡ at + place x)
   over_record i u Nothing e = let z : ◌≡◌ {A = ℕ} 0 1 = cc in absurd (omega arith)
   over_record i u (Err why) e = let z : ◌≡◌ {A = ℕ} 0 1 = cc in absurd (omega arith)
-  over_record i u (Good a b) e = (refl, cc)
+  over_record i u (Good a b) e = (refl, sym (ap next_in e))
 
 -- a step that finds a record stands before the dump's end
 pub before_end : (longest : ℕ) (t : Table) (at : ℕ) (d : List ℕ) (i : Item) (u : Table) → step_at longest t d at ≡ step.Record i u → at < length d
