@@ -9,7 +9,7 @@ ghost use Rattle.form_spec.specs.Octets.{to_be};
 ghost use Rattle.octets_spec.specs.Be.{num_at};
 ghost use Rattle.octets_spec.specs.Field.{field_at, room_at};
 
-use octets_spec::{Num, Room};
+use form_spec::Fault;
 
 // Lays src's n octets from `from` on over out, from `at` on.
 pub fn copy(src: &[u8], from: usize, n: usize, out: &mut [u8], at: usize)
@@ -83,40 +83,31 @@ pub fn put_number(out: &mut [u8], at: usize, width: usize, v: u64)
 }
 
 // The number in the width octets at `at`, and the place after it.
-pub fn field(m: &[u8], at: usize, width: usize) -> Num
+pub fn field(m: &[u8], at: usize, width: usize) -> Result<(u64, usize), Fault>
     requires { width ≤ 8 }
     ensures { result ≡ field_at m.now at width }
 {
-    if m.len() < at {
-        return Num::Short;
+    if m.len() < at || m.len() - at < width {
+        return Err(Fault { number: 5, place: at });
     }
-    if m.len() - at < width {
-        return Num::Short;
-    }
-    Num::Value(number(m, at, width), at + width)
+    Ok((number(m, at, width), at + width))
 }
 
 // Past n octets.
-pub fn skip(m: &[u8], at: usize, n: usize) -> Room
+pub fn skip(m: &[u8], at: usize, n: usize) -> Result<usize, Fault>
     ensures { result ≡ room_at m.now at n }
 {
-    if m.len() < at {
-        return Room::None;
+    if m.len() < at || m.len() - at < n {
+        return Err(Fault { number: 5, place: at });
     }
-    if m.len() - at < n {
-        return Room::None;
-    }
-    Room::To(at + n)
+    Ok(at + n)
 }
 
 // How many octets m has from `at` on.
 pub fn left(m: &[u8], at: usize) -> usize
     ensures { result ≡ length m.now - at }
 {
-    if m.len() < at {
-        return 0;
-    }
-    m.len() - at
+    m.len().saturating_sub(at)
 }
 
 // Whether v needs more than `width` octets.
