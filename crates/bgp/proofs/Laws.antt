@@ -15,48 +15,43 @@ use Rattle.page_spec.specs.Names.{peer_as, local_as, interface, family, peer_add
 use Rattle.page_spec.specs.Bgp4mp.{session, addresses}
 use Rattle.record_spec.specs.Fields as show
 use Rattle.record_spec.specs.declared.Session.{Session}
-use Rattle.octets_spec.specs.Field.{field_at}
-use Rattle.octets_spec.specs.declared.Num.{Num}
-use Rattle.octets_spec.specs.declared.Num.TheVariants.{Value}
+use Rattle.octets_spec.specs.Field.{Num, field_at}
+use Rattle.std.specs.Prelude.{Option, Some, None, Result, Ok, Err}
+use Rattle.form_spec.specs.declared.Fault.{Fault}
+use Rattle.form_spec.specs.Refusal.{refused}
 use Rattle.octets_spec.specs.Field.{room_at}
-use Rattle.octets_spec.specs.declared.Room.{Room}
-use Rattle.octets_spec.specs.declared.Room.TheVariants.{To}
 use Rattle.octets_laws.proofs.Rules.{is_past, fails}
 use Rattle.bgp.specs.Size.{address_size}
-use Rattle.bgp.specs.declared.Size.{Size}
-use Rattle.bgp.specs.declared.Size.TheVariants.{Octets, Unknown}
-use Rattle.bgp.specs.Met.{met}
-use Rattle.bgp.specs.declared.Met.{Met}
-use Rattle.bgp.specs.declared.Met.TheVariants.{With, Bad}
+use Rattle.bgp.specs.Met.{With, met}
 
 -- the length n stands at d, and i is the place behind the type octet
-pub far : (m : List ℕ) (d i n e : ℕ) (r : Room) → i ≡ d + 3 → 19 ≤ n → r ≡ room_at m i (n - 19) → r ≡ To e → e ≡ d + (n - 16)
-far m d i n e r h l p q = let s = is_past m i (n - 19) e r p q in omega arith
+pub far : (m : List ℕ) (d i n e : ℕ) → i ≡ d + 3 → 19 ≤ n → Ok e ≡ room_at m i (n - 19) → e ≡ d + (n - 16)
+far m d i n e h l p = let s = is_past m i (n - 19) e p in omega arith
 
 module _ {A : Type 0} (to : List Seen → ℕ → ℕ → A) (fault : ℕ → ℕ → A) (m : List ℕ) where
   -- the addresses of a family that has a size
-  pub sized : (fam n i : ℕ) (f : Fmt) (s : Size) (y : A) → s ≡ address_size fam → s ≡ Octets n → y ≡ pass to fault (addresses n f) m i
+  pub sized : (fam n i : ℕ) (f : Fmt) (s : Option ℕ) (y : A) → s ≡ address_size fam → s ≡ Some n → y ≡ pass to fault (addresses n f) m i
       → y ≡ pass to fault (choose (eqb fam 1) (addresses 4 f) (choose (eqb fam 2) (addresses 16 f) (fail 7 2))) m i
   unfolding address_size choose
   sized fam n i f s y p q h = go (eqb fam 1) (eqb fam 2) (sym p ∙ q)
     where
-      go : (a b : Bool) → choose a (Octets 4) (choose b (Octets 16) Unknown) ≡ Octets n
+      go : (a b : Bool) → ◌≡◌ {A = Option ℕ} (choose a (Some 4) (choose b (Some 16) None)) (Some n)
           → y ≡ pass to fault (choose a (addresses 4 f) (choose b (addresses 16 f) (fail 7 2))) m i
       go true b e = let z : n ≡ 4 = cc in rw z at h
       go false true e = let z : n ≡ 16 = cc in rw z at h
       go false false e = let z : ◌≡◌ {A = ℕ} 0 1 = cc in absurd (omega arith)
 
   -- and of one that has none: the family stands at d
-  pub unsized : (fam i d : ℕ) (f : Fmt) (s : Size) (r : Num) (y : A) → s ≡ address_size fam → s ≡ Unknown → r ≡ Value fam i → r ≡ field_at m d 2 → y ≡ fault 7 d
+  pub unsized : (fam i d : ℕ) (f : Fmt) (s : Option ℕ) (y : A) → s ≡ address_size fam → s ≡ None → Num fam i ≡ field_at m d 2 → y ≡ fault 7 d
       → y ≡ pass to fault (choose (eqb fam 1) (addresses 4 f) (choose (eqb fam 2) (addresses 16 f) (fail 7 2))) m i
   unfolding address_size choose
-  unsized fam i d f s r y p q v w h = go (eqb fam 1) (eqb fam 2) (sym p ∙ q)
+  unsized fam i d f s y p q v h = go (eqb fam 1) (eqb fam 2) (sym p ∙ q)
     where
-      go : (a b : Bool) → choose a (Octets 4) (choose b (Octets 16) Unknown) ≡ Unknown
+      go : (a b : Bool) → ◌≡◌ {A = Option ℕ} (choose a (Some 4) (choose b (Some 16) None)) None
           → y ≡ pass to fault (choose a (addresses 4 f) (choose b (addresses 16 f) (fail 7 2))) m i
       go true b e = let z : ◌≡◌ {A = ℕ} 0 1 = cc in absurd (omega arith)
       go false true e = let z : ◌≡◌ {A = ℕ} 0 1 = cc in absurd (omega arith)
-      go false false e = fails to fault m 7 2 i d fam r y v w refl h
+      go false false e = fails to fault m 7 2 i d fam y v refl h
 
 -- beside `flow`
 pub ruleset sizes = (sized, unsized)
@@ -108,9 +103,9 @@ module _ {A : Type 0} (tell : Session → List Seen → A) (fault : ℕ → ℕ 
   session_then = rw either
 
   -- the same of a session that was read: f goes on from its end, a fault stays
-  abbrev pub behind : Met → A
+  abbrev pub behind : Result (Session × ℕ) Fault → A
   behind (With s a) = whole (tell s) fault f m a
-  behind (Bad n p) = fault n p
+  behind (Err why) = fault why.number why.place
 
-  pub met_then : {r x : Met} → r ≡ pass met Bad (session w (end 0)) m i → r ≡ x → behind x ≡ whole (λ fs. tell (show.session fs) fs) fault (session w f) m i
-  met_then e q = ap behind (sym q ∙ e) ∙ pass-map behind met Bad (session w (end 0)) m i ∙ session_then
+  pub met_then : {x : Result (Session × ℕ) Fault} → x ≡ pass met refused (session w (end 0)) m i → behind x ≡ whole (λ fs. tell (show.session fs) fs) fault (session w f) m i
+  met_then e = ap behind e ∙ pass-map behind met refused (session w (end 0)) m i ∙ session_then

@@ -1,18 +1,16 @@
 -- `bgp::bgp_message` meets its contract: the BGP message from where the session ends; the names of its fields are none of the session's (`refl`).
-use mathlib.Core.Path.{refl, ◌∙◌}
+use mathlib.Core.Path.{◌≡◌, refl, ◌∙◌}
+use borrow.Author.Rules.{rules}
+use Rattle.std.specs.Prelude.{Err}
+use Rattle.form_spec.specs.Refusal.{refused}
 use Rattle.record_spec.specs.Fields.{message_of}
 use Rattle.bgp.proofs.Laws.{met_then}
 use Rattle.bgp.proofs.bgp_message.Goals as goal
-use Rattle.form_spec.specs.Refusal.{refused}
 
-pub returns-in-With : goal.returns-in-With
-returns-in-With c =
-    let answer = c.session_at in
-    let read = c.in-With.is in
-    c.message_at.ensures ∙ met_then (message_of _) refused _ _ _ _ (λ s n fs. refl) answer.ensures read
+pub returns-in_err-s : goal.returns-in_err-s
+returns-in_err-s c =
+    let passed : c.from_residual.result ≡ Err c.in_err-s.field-0.0 = search rules in
+    passed ∙ met_then (message_of _) refused _ _ _ _ (λ s n fs. refl) c.in_err-s.ensures
 
-pub returns-in-Bad : goal.returns-in-Bad
-returns-in-Bad c =
-    let answer = c.session_at in
-    let refused = c.in-Bad.is in
-    met_then (message_of _) refused _ _ _ _ (λ s n fs. refl) answer.ensures refused
+pub returns : goal.returns
+returns c = c.message_at.ensures ∙ met_then (message_of _) refused _ _ _ _ (λ s n fs. refl) c.in_ok-s.ensures

@@ -1,18 +1,16 @@
--- `bgp::state_change` meets its contract: the states from where the session ends; their names are none of the session's (`refl`).
-use mathlib.Core.Path.{refl, ◌∙◌}
+-- `bgp::state_change` meets its contract: the states from where the session ends; the names of their fields are none of the session's (`refl`).
+use mathlib.Core.Path.{◌≡◌, refl, ◌∙◌}
+use borrow.Author.Rules.{rules}
+use Rattle.std.specs.Prelude.{Err}
+use Rattle.form_spec.specs.Refusal.{refused}
 use Rattle.record_spec.specs.Fields.{change_of}
 use Rattle.bgp.proofs.Laws.{met_then}
 use Rattle.bgp.proofs.state_change.Goals as goal
-use Rattle.form_spec.specs.Refusal.{refused}
 
-pub returns-in-With : goal.returns-in-With
-returns-in-With c =
-    let answer = c.session_at in
-    let read = c.in-With.is in
-    c.states.ensures ∙ met_then (change_of _) refused _ _ _ _ (λ s n fs. refl) answer.ensures read
+pub returns-in_err-s : goal.returns-in_err-s
+returns-in_err-s c =
+    let passed : c.from_residual.result ≡ Err c.in_err-s.field-0.0 = search rules in
+    passed ∙ met_then (change_of _) refused _ _ _ _ (λ s n fs. refl) c.in_err-s.ensures
 
-pub returns-in-Bad : goal.returns-in-Bad
-returns-in-Bad c =
-    let answer = c.session_at in
-    let refused = c.in-Bad.is in
-    met_then (change_of _) refused _ _ _ _ (λ s n fs. refl) answer.ensures refused
+pub returns : goal.returns
+returns c = c.states.ensures ∙ met_then (change_of _) refused _ _ _ _ (λ s n fs. refl) c.in_ok-s.ensures
