@@ -1,41 +1,98 @@
--- `table_dump::rest_at` meets its contract. The last return names the facts of its reads, too many for `search` to find.
-use Rattle.page_spec.specs.Rib.{attributes}
+-- `table_dump::rest_at` meets its contract: `read` is what the fields before have shown.
+use Rattle.page_spec.specs.Rib.{tiling, attributes}
 use Rattle.page_spec.specs.TableDump.{table_dump_rest}
 use Rattle.octets_laws.proofs.Rules.{flow}
+use mathlib.Core.Path.{◌≡◌}
+use borrow.Author.Rules.{rules}
+use Rattle.std.specs.Prelude.{Err}
 use Rattle.table_dump.proofs.rest_at.Goals as goal
 
-pub returns-in_default : goal.returns-in_default
-unfolding table_dump_rest attributes
-returns-in_default c = search flow depth 14
+pub returns-in_err-status : goal.returns-in_err-status
+unfolding table_dump_rest attributes tiling
+returns-in_err-status c =
+    let why = c.in_err-status.ensures in
+    let passed : c.from_residual.result ≡ Err c.in_err-status.field-0.0 = search rules in
+    search flow depth 20
 
-pub returns-in_default-field : goal.returns-in_default-field
-unfolding table_dump_rest attributes
-returns-in_default-field c = search flow depth 14
+pub returns-in_err-originated : goal.returns-in_err-originated
+unfolding table_dump_rest attributes tiling
+returns-in_err-originated c =
+    let a = c.in_ok-status.ensures in
+    let why = c.in_err-originated.ensures in
+    let passed : c.from_residual-in_err-originated.result ≡ Err c.in_err-originated.field-0.0 = search rules in
+    search flow depth 20
 
-pub returns-in_default-skip : goal.returns-in_default-skip
-unfolding table_dump_rest attributes
-returns-in_default-skip c = search flow depth 14
+pub returns-in_err-d : goal.returns-in_err-d
+unfolding table_dump_rest attributes tiling
+returns-in_err-d c =
+    let a = c.in_ok-status.ensures in
+    let b = c.in_ok-originated.ensures in
+    let why = c.in_err-d.ensures in
+    let passed : c.from_residual-in_err-d.result ≡ Err c.in_err-d.field-0.0 = search rules in
+    search flow depth 20
 
-pub returns-in_default-field-2 : goal.returns-in_default-field-2
-unfolding table_dump_rest attributes
-returns-in_default-field-2 c = search flow depth 14
+pub returns-in_err-peer : goal.returns-in_err-peer
+unfolding table_dump_rest attributes tiling
+returns-in_err-peer c =
+    let a = c.in_ok-status.ensures in
+    let b = c.in_ok-originated.ensures in
+    let d = c.in_ok-d.ensures in
+    let why = c.in_err-peer.ensures in
+    let passed : c.from_residual-in_err-peer.result ≡ Err c.in_err-peer.field-0.0 = search rules in
+    search flow depth 20
 
-pub returns-in_default-field-3 : goal.returns-in_default-field-3
-unfolding table_dump_rest attributes
-returns-in_default-field-3 c = search flow depth 14
+pub returns-in_err-n : goal.returns-in_err-n
+unfolding table_dump_rest attributes tiling
+returns-in_err-n c =
+    let a = c.in_ok-status.ensures in
+    let b = c.in_ok-originated.ensures in
+    let d = c.in_ok-d.ensures in
+    let e = c.in_ok-peer.ensures in
+    let why = c.in_err-n.ensures in
+    let passed : c.from_residual-in_err-n.result ≡ Err c.in_err-n.field-0.0 = search rules in
+    search flow depth 20
+
+pub returns-in_err-end : goal.returns-in_err-end
+unfolding table_dump_rest attributes tiling
+returns-in_err-end c =
+    let a = c.in_ok-status.ensures in
+    let b = c.in_ok-originated.ensures in
+    let d = c.in_ok-d.ensures in
+    let e = c.in_ok-peer.ensures in
+    let f = c.in_ok-n.ensures in
+    let why = c.in_err-end.ensures in
+    let passed : c.from_residual-in_err-end.result ≡ Err c.in_err-end.field-0.0 = search rules in
+    search flow depth 20
+
+pub returns-then-not-tile : goal.returns-then-not-tile
+unfolding table_dump_rest attributes tiling
+returns-then-not-tile c =
+    let a = c.in_ok-status.ensures in
+    let b = c.in_ok-originated.ensures in
+    let d = c.in_ok-d.ensures in
+    let e = c.in_ok-peer.ensures in
+    let f = c.in_ok-n.ensures in
+    let g = c.in_ok-end.ensures in
+    search flow depth 20
+
+pub returns-then-end-m : goal.returns-then-end-m
+unfolding table_dump_rest attributes tiling
+returns-then-end-m c =
+    let a = c.in_ok-status.ensures in
+    let b = c.in_ok-originated.ensures in
+    let d = c.in_ok-d.ensures in
+    let e = c.in_ok-peer.ensures in
+    let f = c.in_ok-n.ensures in
+    let g = c.in_ok-end.ensures in
+    search flow depth 20
 
 pub returns : goal.returns
-unfolding table_dump_rest attributes
+unfolding table_dump_rest attributes tiling
 returns c =
-    let n-is = c.in-Value-field-3.is in
-    let n-read = c.field-4.ensures in
-    let peer-is = c.in-Value-field-2.is in
-    let peer-read = c.field-3.ensures in
-    let d-is = c.in-To.is in
-    let d-read = c.skip.ensures in
-    let originated-is = c.in-Value-field.is in
-    let originated-read = c.field-2.ensures in
-    let status-is = c.in-Value.is in
-    let status-read = c.field.ensures in
-    let told = c.attributes_at.ensures in
-    search flow depth 14
+    let a = c.in_ok-status.ensures in
+    let b = c.in_ok-originated.ensures in
+    let d = c.in_ok-d.ensures in
+    let e = c.in_ok-peer.ensures in
+    let f = c.in_ok-n.ensures in
+    let g = c.in_ok-end.ensures in
+    search flow depth 20
