@@ -1,10 +1,10 @@
--- A RIB record shown with its family and SAFI, or without.
-use Rattle.std.specs.Prelude.{ℕ, Bool, true, false}
-use Rattle.record_spec.specs.declared.Header.{Header}
+-- A RIB record's body, with a family and SAFI or without.
+use Rattle.std.specs.Prelude.{Option, Some, None}
 use Rattle.record_spec.specs.declared.Routes.{Routes}
-use Rattle.record_spec.specs.Shown.{Shown, Good}
+use Rattle.record_spec.specs.declared.Scope.{Scope}
+use Rattle.record_spec.specs.declared.Body.{Body}
 use Rattle.record_spec.specs.declared.Body.TheVariants.{Rib, RibGeneric}
 
-abbrev pub tail : Header → Bool → (family safi : ℕ) → Routes → Shown
-tail h true f s r = Good h (RibGeneric (record { family = f; safi = s }) r)
-tail h false f s r = Good h (Rib r)
+abbrev pub tail : Option Scope → Routes → Body
+tail (Some s) r = RibGeneric s r
+tail None r = Rib r

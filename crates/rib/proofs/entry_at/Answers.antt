@@ -1,24 +1,66 @@
-use Rattle.page_spec.specs.Rib.{entry, attributes}
-use Rattle.octets_laws.proofs.Rules.{flow}
+-- `rib::entry_at` meets its contract: `read` is what the fields before have shown.
+use Rattle.page_spec.specs.Rib.{entry, attributes, tiling}
 use Rattle.record_laws.proofs.Finds.{entry-finds}
+use Rattle.octets_laws.proofs.Rules.{flow}
+use mathlib.Core.Path.{◌≡◌}
+use borrow.Author.Rules.{rules}
+use Rattle.std.specs.Prelude.{Err}
 use Rattle.rib.proofs.entry_at.Goals as goal
 
-pub returns-in_default : goal.returns-in_default
-unfolding entry attributes
-returns-in_default c = entry-finds _ _ _ _ (search flow depth 12)
+pub returns-in_err-index : goal.returns-in_err-index
+unfolding entry attributes tiling
+returns-in_err-index c =
+    let why = c.in_err-index.ensures in
+    let passed : c.from_residual.result ≡ Err c.in_err-index.field-0.0 = search rules in
+    entry-finds _ _ _ _ (search flow depth 16)
 
 pub returns-then-peers-index : goal.returns-then-peers-index
-unfolding entry attributes
-returns-then-peers-index c = entry-finds _ _ _ _ (search flow depth 12)
+unfolding entry attributes tiling
+returns-then-peers-index c =
+    let a = c.in_ok-index.ensures in
+    entry-finds _ _ _ _ (search flow depth 16)
 
-pub returns-in_default-field : goal.returns-in_default-field
-unfolding entry attributes
-returns-in_default-field c = entry-finds _ _ _ _ (search flow depth 12)
+pub returns-in_err-originated : goal.returns-in_err-originated
+unfolding entry attributes tiling
+returns-in_err-originated c =
+    let a = c.in_ok-index.ensures in
+    let why = c.in_err-originated.ensures in
+    let passed : c.from_residual-in_err-originated.result ≡ Err c.in_err-originated.field-0.0 = search rules in
+    entry-finds _ _ _ _ (search flow depth 16)
 
-pub returns-in_default-field-2 : goal.returns-in_default-field-2
-unfolding entry attributes
-returns-in_default-field-2 c = entry-finds _ _ _ _ (search flow depth 12)
+pub returns-in_err-n : goal.returns-in_err-n
+unfolding entry attributes tiling
+returns-in_err-n c =
+    let a = c.in_ok-index.ensures in
+    let b = c.in_ok-originated.ensures in
+    let why = c.in_err-n.ensures in
+    let passed : c.from_residual-in_err-n.result ≡ Err c.in_err-n.field-0.0 = search rules in
+    entry-finds _ _ _ _ (search flow depth 16)
+
+pub returns-in_err-next : goal.returns-in_err-next
+unfolding entry attributes tiling
+returns-in_err-next c =
+    let a = c.in_ok-index.ensures in
+    let b = c.in_ok-originated.ensures in
+    let d = c.in_ok-n.ensures in
+    let why = c.in_err-next.ensures in
+    let passed : c.from_residual-in_err-next.result ≡ Err c.in_err-next.field-0.0 = search rules in
+    entry-finds _ _ _ _ (search flow depth 16)
+
+pub returns-then-not-tile : goal.returns-then-not-tile
+unfolding entry attributes tiling
+returns-then-not-tile c =
+    let a = c.in_ok-index.ensures in
+    let b = c.in_ok-originated.ensures in
+    let d = c.in_ok-n.ensures in
+    let e = c.in_ok-next.ensures in
+    entry-finds _ _ _ _ (search flow depth 16)
 
 pub returns : goal.returns
-unfolding entry attributes
-returns c = entry-finds _ _ _ _ (search flow depth 12)
+unfolding entry attributes tiling
+returns c =
+    let a = c.in_ok-index.ensures in
+    let b = c.in_ok-originated.ensures in
+    let d = c.in_ok-n.ensures in
+    let e = c.in_ok-next.ensures in
+    entry-finds _ _ _ _ (search flow depth 16)
