@@ -1,36 +1,40 @@
 -- A loop over peers: what is left to go through is what was there at first.
-use mathlib.Core.Path.{refl, ◌∙◌}
+use mathlib.Core.Path.{◌≡◌, refl, sym, ap, ◌∙◌}
+use Prim.Native.Nat.{◌+◌, ◌-◌}
 use native.Mathlib.Omega.{arith}
-use Rattle.octets_laws.proofs.Items.{goes_on, stays, over, done}
+use borrow.Author.Rules.{rules}
+use Rattle.std.specs.Prelude.{Ok, Err}
+use Rattle.form_spec.specs.Refusal.{refused}
+use Rattle.octets_laws.proofs.Items.{goes, goes_on, stays, over, done}
 use Rattle.page_spec.specs.Peers.{peer}
 use Rattle.record_spec.specs.Fields as show
-use Rattle.record_spec.specs.declared.Peer.TheVariants.{Bad}
 use Rattle.peers.proofs.Laws.{onward, goes_to, stops}
-use borrow.Author.Rules.{rules}
 use Rattle.peers.proofs.peers_at.Goals as goal
-use Rattle.form_spec.specs.Refusal.{refused}
 
-pub loop-left-init : goal.loop-left-init
-loop-left-init c = refl
+pub returns-in_err-at : goal.returns-in_err-at
+returns-in_err-at g c =
+    let l = c.loop in
+    let why = c.in_err-at.field-0.0 in
+    let passed : c.from_residual.result ≡ Err why = search rules in
+    passed ∙ stays show.peer refused refused onward goes_to stops _ _ _ (c.args.count - l.counter) l.at _ why.number why.place c.in_err-at.ensures.0 refl (omega arith) ∙ l.invariant.1
 
-pub returns-in-Bad : goal.returns-in-Bad
-returns-in-Bad c =
-    let l = c.loop-left in
-    stays show.peer Bad refused onward goes_to stops _ _ _ l.left l.at _ _ _ c.peer_at.ensures.0 c.in-Bad.is (search rules) ∙ l.invariant
-
-pub loop-left-preserved : goal.loop-left-preserved
-loop-left-preserved c =
-    let l = c.loop-left in
-    goes_on show.peer Bad refused onward goes_to stops _ _ _ l.left l.at _ _ _ c.peer_at.ensures.0 c.in-Of.is (λ f. refl) (search rules) ∙ l.invariant
+pub loop-preserved : goal.loop-preserved
+loop-preserved g c =
+    let l = c.loop in
+    let a = c.args in
+    let one_less : a.count - (l.counter + 1) ≡ a.count - l.counter - 1 = omega arith in
+    ( omega arith,
+      ap (λ k. goes show.peer refused refused onward goes_to stops peer (Ok a.s) a.m.now k c.in_ok-at.field-0.next) one_less
+      ∙ goes_on show.peer refused refused onward goes_to stops _ _ _ (a.count - l.counter) l.at _ _ _ c.in_ok-at.ensures.0 refl (λ f. refl) (omega arith) ∙ l.invariant.1 )
 
 pub returns-then-at-m : goal.returns-then-at-m
-returns-then-at-m c =
-    let l = c.loop-left in
+returns-then-at-m g c =
+    let l = c.loop in
     let a = c.args in
-    over show.peer Bad refused onward goes_to stops peer a.s a.m.now l.left l.at (omega arith) c.if-at-m.true ∙ l.invariant
+    over show.peer refused refused onward goes_to stops peer (Ok a.s) a.m.now (a.count - l.counter) l.at (omega arith) c.if-at-m.true ∙ l.invariant.1
 
 pub returns : goal.returns
-returns c =
-    let l = c.loop-left in
+returns g c =
+    let l = c.loop in
     let a = c.args in
-    done show.peer Bad refused onward goes_to stops peer a.s a.m.now l.left l.at (omega arith) c.if-at-m.false ∙ l.invariant
+    done show.peer refused refused onward goes_to stops peer (Ok a.s) a.m.now (a.count - l.counter) l.at (omega arith) c.if-at-m.false ∙ l.invariant.1
