@@ -4,6 +4,7 @@
 ghost use Rattle.std.specs.Prelude.{◌≡◌};
 ghost use Rattle.record_spec.specs.Answer as answer;
 
+use form_spec::Fault;
 use octets::part;
 use record_spec::{Body, Entry, Header, Part, Peer, Shown, Table};
 
@@ -12,17 +13,15 @@ pub fn fault(r: Shown) -> u8
     ensures { result ≡ answer.fault r }
 {
     match r {
-        Shown::Nothing => 0,
-        Shown::Refused(n, _) => n,
-        Shown::Good(_, _) => 0,
+        Ok(_) => 0,
+        Err(f) => f.number,
     }
 }
 
 fn end(h: Header) -> usize
     ensures { result ≡ answer.end h }
 {
-    let length = h.length;
-    12 + length as usize
+    12 + h.length as usize
 }
 
 // The fault's place, or where the record ends, counted from its header.
@@ -30,9 +29,9 @@ pub fn place(r: Shown) -> usize
     ensures { result ≡ answer.place r }
 {
     match r {
-        Shown::Nothing => 0,
-        Shown::Refused(_, p) => p,
-        Shown::Good(h, _) => end(h),
+        Ok(None) => 0,
+        Ok(Some((h, _))) => end(h),
+        Err(f) => f.place,
     }
 }
 
@@ -40,18 +39,14 @@ pub fn place(r: Shown) -> usize
 pub fn time(h: Header) -> u64
     ensures { result ≡ answer.time h }
 {
-    let seconds = h.timestamp;
-    let more = h.microseconds;
-    seconds as u64 * 1000000 + more as u64
+    u64::from(h.timestamp) * 1000000 + u64::from(h.microseconds)
 }
 
 // A part of the octets that were read.
 pub fn within(m: &[u8], p: Part) -> &[u8]
     ensures { answer.Lies m.entry p result }
 {
-    let at = p.at;
-    let size = p.size;
-    part(m, at, size)
+    part(m, p.at, p.size)
 }
 
 fn carried_in(m: &[u8], b: Body) -> &[u8]
@@ -73,9 +68,8 @@ pub fn carried(m: &[u8], r: Shown) -> &[u8]
     ensures { answer.Lies m.entry (answer.carried r) result }
 {
     match r {
-        Shown::Nothing => part(m, 0, 0),
-        Shown::Refused(_, _) => part(m, 0, 0),
-        Shown::Good(_, b) => carried_in(m, b),
+        Ok(Some((_, b))) => carried_in(m, b),
+        _ => part(m, 0, 0),
     }
 }
 
@@ -84,32 +78,27 @@ pub fn table_behind(t: Table, b: Body) -> Table
     ensures { result ≡ answer.table_behind t b }
 {
     match b {
-        Body::Unread(_) => t,
-        Body::TableDump(_) => t,
-        Body::PeerTable(p) => Table::Holds(p.count),
-        Body::Rib(_) => t,
-        Body::RibGeneric(_, _) => t,
-        Body::Change(_, _) => t,
-        Body::Message(_, _) => t,
+        Body::PeerTable(p) => Some(p.count),
+        _ => t,
     }
 }
 
 // An entry's attributes.
-pub fn attributes(m: &[u8], e: Entry) -> &[u8]
+pub fn attributes(m: &[u8], e: Result<Entry, Fault>) -> &[u8]
     ensures { answer.Lies m.entry (answer.attributes_in e) result }
 {
     match e {
-        Entry::At(_, _, p, _) => within(m, p),
-        Entry::Bad(_, _) => part(m, 0, 0),
+        Ok(e) => within(m, e.attributes),
+        Err(_) => part(m, 0, 0),
     }
 }
 
 // A peer's address.
-pub fn address(m: &[u8], p: Peer) -> &[u8]
+pub fn address(m: &[u8], p: Result<Peer, Fault>) -> &[u8]
     ensures { answer.Lies m.entry (answer.address_in p) result }
 {
-    match p {
-        Peer::Of(_, _, a, _, _) => within(m, a),
-        Peer::Bad(_, _) => part(m, 0, 0),
-    }
+    let Ok(p) = p else {
+        return part(m, 0, 0);
+    };
+    within(m, p.address)
 }

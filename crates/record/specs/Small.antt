@@ -1,8 +1,8 @@
 -- A number of at most 4 octets.
-use Rattle.std.specs.Prelude.{◌^◌, ◌<◌}
-use Rattle.octets_spec.specs.declared.Num.{Num}
-use Rattle.octets_spec.specs.declared.Num.TheVariants.{Value, Short}
+use Rattle.std.specs.Prelude.{ℕ, ◌^◌, ◌<◌, Result, Err}
+use Rattle.form_spec.specs.declared.Fault.{Fault}
+use Rattle.octets_spec.specs.Field.{Num}
 
-abbrev pub Small : Num → Type 0
-Small (Value v a) = v < 2 ^ 32
-Small Short = Unit
+abbrev pub Small : Result (ℕ × ℕ) Fault → Type 0
+Small (Num v a) = v < 2 ^ 32
+Small (Err why) = Unit

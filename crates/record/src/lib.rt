@@ -1,7 +1,7 @@
 // Reading one record.
 #![tactic(auto)]
 
-ghost use Rattle.std.specs.Prelude.{◌≡◌, ◌≤◌, length};
+ghost use Rattle.std.specs.Prelude.{◌≡◌, ◌≤◌, length, Ok};
 ghost use Rattle.page_spec.specs.Sane.{Sane};
 ghost use Rattle.page_spec.specs.Bgp4mp.{longest_message};
 ghost use Rattle.record_spec.specs.One.{header, micro_at, shown_unread, shown_rib, shown_generic, shown_change, shown_message, shown_as, whole_record, read_one};
@@ -10,9 +10,9 @@ ghost use Rattle.record.specs.Small.{Small};
 ghost use Rattle.record.specs.Stamp.{stamp_of};
 
 use bgp::{bgp_message, state_change};
+use form_spec::Fault;
 use kind::kind_of;
 use octets::{field, left, number};
-use octets_spec::Num;
 use page_spec::{Kind, LONGEST_MESSAGE};
 use peers::peer_table;
 use record_spec::{Body, Header, Part, Shown, Table};
@@ -33,32 +33,24 @@ fn header_of(m: &[u8], microseconds: u32) -> Header
 }
 
 // Microseconds of `micro` octets, and where the message goes on.
-fn micro_at(m: &[u8], micro: usize) -> Num
+fn micro_at(m: &[u8], micro: usize) -> Result<(u64, usize), Fault>
     requires { micro ≤ 4 }
     ensures { (result ≡ micro_at m.now micro) × Small result }
 {
     if micro == 0 {
-        return Num::Value(0, 12);
+        return Ok((0, 12));
     }
     field(m, 12, micro)
 }
 
 // The header with its microseconds, and where the message goes on.
-#[derive(Drop)]
-pub enum Stamp {
-    With(Header, usize),
-    Short,
-}
-
-fn stamp_at(m: &[u8], micro: usize) -> Stamp
+fn stamp_at(m: &[u8], micro: usize) -> Result<(Header, usize), Fault>
     requires in_bounds { 12 ≤ length m.now }
     requires micro_bound { micro ≤ 4 }
     ensures { result ≡ stamp_of m.now (micro_at m.now micro) }
 {
-    let Num::Value(u, at) = micro_at(m, micro) else {
-        return Stamp::Short;
-    };
-    Stamp::With(header_of(m, u as u32), at)
+    let (microseconds, at) = micro_at(m, micro)?;
+    Ok((header_of(m, microseconds as u32), at))
 }
 
 fn unread(m: &[u8], micro: usize) -> Shown
@@ -66,14 +58,12 @@ fn unread(m: &[u8], micro: usize) -> Shown
     requires micro_bound { micro ≤ 4 }
     ensures { result ≡ shown_unread m.now micro }
 {
-    let Stamp::With(h, at) = stamp_at(m, micro) else {
-        return Shown::Refused(5, 12);
-    };
+    let (h, at) = stamp_at(m, micro)?;
     let contents = Part {
         at,
         size: left(m, at),
     };
-    Shown::Good(h, Body::Unread(contents))
+    Ok(Some((h, Body::Unread(contents))))
 }
 
 fn change(m: &[u8], micro: usize, width: usize) -> Shown
@@ -81,9 +71,7 @@ fn change(m: &[u8], micro: usize, width: usize) -> Shown
     requires micro_bound { (micro ≤ 4) × (width ≤ 8) }
     ensures { result ≡ shown_change m.now micro width }
 {
-    let Stamp::With(h, at) = stamp_at(m, micro) else {
-        return Shown::Refused(5, 12);
-    };
+    let (h, at) = stamp_at(m, micro)?;
     state_change(m, at, width, h)
 }
 
@@ -92,9 +80,7 @@ fn message(m: &[u8], micro: usize, width: usize, longest: u64) -> Shown
     requires micro_bound { (micro ≤ 4) × (width ≤ 8) }
     ensures { result ≡ shown_message longest m.now micro width }
 {
-    let Stamp::With(h, at) = stamp_at(m, micro) else {
-        return Shown::Refused(5, 12);
-    };
+    let (h, at) = stamp_at(m, micro)?;
     bgp_message(m, at, width, longest, h)
 }
 
@@ -103,8 +89,11 @@ fn rib(m: &[u8], bits: u64, t: Table) -> Shown
     requires bits_bound { bits ≤ 128 }
     ensures { result ≡ shown_rib t m.now bits }
 {
-    let Table::Holds(peers) = t else {
-        return Shown::Refused(12, 6);
+    let Some(peers) = t else {
+        return Err(Fault {
+            number: 12,
+            place: 6,
+        });
     };
     rib_at(m, 12, bits, peers, header_of(m, 0))
 }
@@ -113,8 +102,11 @@ fn generic(m: &[u8], t: Table) -> Shown
     requires { 12 ≤ length m.now }
     ensures { result ≡ shown_generic t m.now }
 {
-    let Table::Holds(peers) = t else {
-        return Shown::Refused(12, 6);
+    let Some(peers) = t else {
+        return Err(Fault {
+            number: 12,
+            place: 6,
+        });
     };
     rib_generic(m, 12, peers, header_of(m, 0))
 }
@@ -122,11 +114,10 @@ fn generic(m: &[u8], t: Table) -> Shown
 // A record of a kind; m runs from its header to its last octet.
 fn show(m: &[u8], k: Kind, t: Table, longest: u64) -> Shown
     requires in_bounds { 12 ≤ length m.now }
-    requires sane { Sane k }
-    ensures { result ≡ shown_as longest t m.now k }
+    requires sane { Sane (Ok k) }
+    ensures { result ≡ shown_as longest t m.now (Ok k) }
 {
     match k {
-        Kind::Refused(n, place) => Shown::Refused(n, place),
         Kind::Unread(micro) => unread(m, micro),
         Kind::TableDump(size) => table_dump(m, 12, size, header_of(m, 0)),
         Kind::PeerTable => peer_table(m, 12, header_of(m, 0)),
@@ -141,7 +132,7 @@ fn whole_record(m: &[u8], t: Table, longest: u64) -> Shown
     requires { 12 ≤ length m.now }
     ensures { result ≡ whole_record longest t m.now }
 {
-    let k = kind_of(number(m, 4, 2), number(m, 6, 2));
+    let k = kind_of(number(m, 4, 2), number(m, 6, 2))?;
     show(m, k, t, longest)
 }
 
@@ -149,15 +140,21 @@ fn whole_record(m: &[u8], t: Table, longest: u64) -> Shown
 pub fn read_with(s: &[u8], t: Table, longest: u64) -> Shown
     ensures { result ≡ read_one longest t s.now }
 {
-    if s.len() == 0 {
-        return Shown::Nothing;
+    if s.is_empty() {
+        return Ok(None);
     }
     if s.len() < 12 {
-        return Shown::Refused(1, 0);
+        return Err(Fault {
+            number: 1,
+            place: 0,
+        });
     }
     let length = number(s, 8, 4) as usize;
     if s.len() - 12 < length {
-        return Shown::Refused(2, 0);
+        return Err(Fault {
+            number: 2,
+            place: 0,
+        });
     }
     let end = 12 + length;
     whole_record(&s[0..end], t, longest)

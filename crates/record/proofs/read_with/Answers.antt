@@ -5,9 +5,9 @@ use Rattle.octets_laws.proofs.Rules.{flow}
 use Rattle.record_spec.specs.One.{read_one}
 use Rattle.record.proofs.read_with.Goals as goal
 
-pub returns-then-s-eq0 : goal.returns-then-s-eq0
+pub returns-then-is_empty : goal.returns-then-is_empty
 unfolding read_one
-returns-then-s-eq0 c = search flow depth 6
+returns-then-is_empty c = search flow depth 6
 
 pub returns-then-s-lt12 : goal.returns-then-s-lt12
 unfolding read_one

@@ -8,4 +8,4 @@ returns-in_default c = rw c.in_default.is
 
 pub returns : goal.returns
 unfolding tabled
-returns c = rw c.in-Holds.is (rw c.header_of.ensures at c.rib_at.ensures)
+returns c = rw c.in-Some.is (rw c.header_of.ensures at c.rib_at.ensures)

@@ -2,14 +2,15 @@
 use mathlib.Core.Path.{◌≡◌}
 use native.Mathlib.Omega.{arith}
 use Rattle.page_spec.specs.Sane.{Sane}
-use Rattle.page_spec.specs.Chosen.{Chosen}
+use Rattle.std.specs.Prelude.{Ok}
+use Rattle.page_spec.specs.declared.Kind.{Kind}
 use Rattle.record_spec.specs.One.{shown_as}
 use borrow.Author.Rules.{rules}
 use Rattle.record.proofs.show.Goals.{After-shared_slice_known-1}
 use Rattle.record.proofs.show.Goals as goal
 
 -- the kind is sane, as what the match has shown it to be
-sane : (c : After-shared_slice_known-1) (y : Chosen) → c.args.k ≡ y → Sane y
+sane : (c : After-shared_slice_known-1) (y : Kind) → c.args.k ≡ y → Sane (Ok y)
 sane c y e =
     rw e at c.requires.sane
 
@@ -27,10 +28,6 @@ change-requires c = let s = sane (goal.at.change-requires c).After-shared_slice_
 
 pub message-requires : goal.message-requires
 message-requires c = let s = sane (goal.at.message-requires c).After-shared_slice_known-1 _ c.in-Message.is in record { in_bounds = search rules; micro_bound = (omega arith, omega arith) }
-
-pub returns-in-Refused : goal.returns-in-Refused
-unfolding shown_as
-returns-in-Refused c = rw c.in-Refused.is
 
 pub returns-in-Unread : goal.returns-in-Unread
 unfolding shown_as
