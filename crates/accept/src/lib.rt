@@ -2,7 +2,7 @@
 // says what is wrong with it. m is the record from its header to its last octet.
 #![tactic(auto)]
 
-ghost use Rattle.std.specs.Prelude.{◌≡◌, true, cond, ℕ, ◌+◌, ◌≤◌, length};
+ghost use Rattle.std.specs.Prelude.{◌≡◌, true, cond, ℕ, ◌+◌, ◌≤◌, length, IfSome};
 ghost use Rattle.form_spec.specs.Pass.{times};
 ghost use Rattle.form_spec.specs.Words.{in_range};
 ghost use Rattle.page_spec.specs.Bgp4mp.{session, state_change, message};
@@ -10,12 +10,12 @@ ghost use Rattle.page_spec.specs.Rib.{prefix, entry, entry_list, rib_generic};
 ghost use Rattle.page_spec.specs.Peers.{peer};
 ghost use Rattle.page_spec.specs.TableDump.{table_dump};
 ghost use Rattle.page_spec.specs.Layout.{kind12, kind13, kind16};
-ghost use Rattle.page_spec.specs.declared.Kind.TheVariants.{PeerTable};
+ghost use Rattle.page_spec.specs.Chosen.{PeerTable};
 ghost use Rattle.record_spec.specs.One.{shown_as, whole_record};
 ghost use Rattle.accept_laws.specs.Runs.{Through, SessionTo, WithTable};
 ghost use Rattle.accept_spec.specs.Sure.{Sure, Yes, micro_octets};
 ghost use Rattle.accept_spec.specs.declared.Accepted.TheVariants as answer;
-ghost use Rattle.record_spec.specs.declared.Table as told;
+ghost use Rattle.record_spec.specs.Table as told;
 
 use accept_spec::Accepted;
 use attr::tile;
@@ -26,34 +26,30 @@ use text::is_text;
 
 // ---- types 16 and 17
 
-// Where a session ends that starts at `at`, with AS numbers of `width` octets; 0 where it is not good. The addresses have 8 octets or
+// Where a session ends that starts at `at`, with AS numbers of `width` octets, where it is good. The addresses have 8 octets or
 // 32, computed from the family: neighbouring records differ in it, and a branch would be mispredicted.
-fn session_end(m: &[u8], at: usize, width: usize) -> usize
+fn session_end(m: &[u8], at: usize, width: usize) -> Option<usize>
     requires { (at ≤ 16) × (width ≤ 4) }
-    ensures { (result ≤ 60) × SessionTo width m.now at result }
+    ensures { IfSome result (λ end. (end ≤ 60) × SessionTo width m.now at end) }
 {
     let head = at + 2 * width + 4;
     if m.len() < head {
-        return 0;
+        return None;
     }
     let family = number(m, head - 2, 2) as usize;
-    if family == 0 {
-        return 0;
+    if family == 0 || 2 < family {
+        return None;
     }
-    if 2 < family {
-        return 0;
-    }
-    head + 24 * family - 16
+    Some(head + 24 * family - 16)
 }
 
 fn message(m: &[u8], at: usize, width: usize, longest: u64) -> bool
     requires { (at ≤ 16) × (width ≤ 4) }
     ensures { result ≡ true → Through (session width (message longest)) m.now at }
 {
-    let from = session_end(m, at, width);
-    if from == 0 {
+    let Some(from) = session_end(m, at, width) else {
         return false;
-    }
+    };
     if m.len() < from + 19 {
         return false;
     }
@@ -67,27 +63,20 @@ fn message(m: &[u8], at: usize, width: usize, longest: u64) -> bool
 fn state(n: u64) -> bool
     ensures { result ≡ true → in_range 1 n 6 ≡ true }
 {
-    if n == 0 {
-        return false;
-    }
-    n <= 6
+    1 <= n && n <= 6
 }
 
 fn change(m: &[u8], at: usize, width: usize) -> bool
     requires { (at ≤ 16) × (width ≤ 4) }
     ensures { result ≡ true → Through (session width state_change) m.now at }
 {
-    let from = session_end(m, at, width);
-    if from == 0 {
+    let Some(from) = session_end(m, at, width) else {
         return false;
-    }
+    };
     if m.len() != from + 4 {
         return false;
     }
-    if state(number(m, from, 2)) {
-        return state(number(m, from + 2, 2));
-    }
-    false
+    state(number(m, from, 2)) && state(number(m, from + 2, 2))
 }
 
 // The session starts at `at`, behind the microseconds.
@@ -124,8 +113,7 @@ fn entries(m: &[u8], from: usize, entry_count: u64, peers: u64) -> bool
     }
     let last = m.len() - 8;
     let mut at = from;
-    let mut left = entry_count;
-    while 0 < left {
+    for _ in 0..entry_count {
         if last < at {
             return false;
         }
@@ -137,12 +125,10 @@ fn entries(m: &[u8], from: usize, entry_count: u64, peers: u64) -> bool
         if m.len() < next {
             return false;
         }
-        if tile(&m[first..next]) {
-            at = next;
-            left -= 1;
-        } else {
+        if !tile(&m[first..next]) {
             return false;
         }
+        at = next;
     }
     at == m.len()
 }
@@ -170,7 +156,7 @@ fn rib(m: &[u8], at: usize, most: u64, t: Table) -> bool
     requires { at ≤ 19 }
     ensures { result ≡ true → WithTable t (λ peers. Through (prefix most (entry_list peers)) m.now at) }
 {
-    let Table::Holds(peers) = t else {
+    let Some(peers) = t else {
         return false;
     };
     prefix(m, at, most, peers)
@@ -199,13 +185,11 @@ fn peers(m: &[u8], from: usize, peer_count: u64) -> bool
     ensures { result ≡ true → Through (times peer_count peer) m.now from }
 {
     let mut at = from;
-    let mut left = peer_count;
-    while 0 < left {
+    for _ in 0..peer_count {
         if m.len() <= at {
             return false;
         }
         at = peer_end(m, at);
-        left -= 1;
     }
     at == m.len()
 }
@@ -221,10 +205,8 @@ fn peer_table(m: &[u8]) -> Accepted
         return Accepted::Unsure;
     }
     let many = count(m, counted);
-    if peers(m, counted + 2, many) {
-        if is_text(&m[18..counted]) {
-            return Accepted::Table(many);
-        }
+    if peers(m, counted + 2, many) && is_text(&m[18..counted]) {
+        return Accepted::Table(many);
     }
     Accepted::Unsure
 }
@@ -267,8 +249,7 @@ fn table_dump(m: &[u8], size: usize) -> bool
     if number(m, first - 2, 2) as usize != m.len() - first {
         return false;
     }
-    let end = m.len();
-    tile(&m[first..end])
+    tile(&m[first..])
 }
 
 fn route(m: &[u8], subtype: u64) -> bool

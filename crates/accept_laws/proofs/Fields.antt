@@ -52,12 +52,12 @@ module _ (m : List ℕ) where
     fam = omega arith
 
     short_session : num_at m (i + 2 * w + 4 - 2) 2 ≡ 1 → i + 2 * w + 4 + 8 ≡ r → SessionTo w m i r
-    short_session q z p l f h =
+    short_session q z l f h =
         let x : num_at m (i + w + w + 2) 2 ≡ 1 = rw fam q in
         head f (first_runs m e _ _ _ _ (eq-eqb _ 1 x) (both 4 f (omega arith) l h))
 
     long_session : num_at m (i + 2 * w + 4 - 2) 2 ≡ 2 → i + 2 * w + 4 + 32 ≡ r → SessionTo w m i r
-    long_session q z p l f h =
+    long_session q z l f h =
         let x : num_at m (i + w + w + 2) 2 ≡ 2 = rw fam q in
         head f (second_runs m e _ _ _ _ (ne_eqb (num_at m (i + w + w + 2) 2) 1 (λ y. omega arith)) (first_runs m e _ _ _ _ (eq-eqb _ 2 x) (both 16 f (omega arith) l h)))
 

@@ -14,9 +14,9 @@ Runs (field x l b k) m i j = (i + l ≤ length m) × Runs (k (take l (drop i m))
 abbrev pub Through : Fmt → List ℕ → (i : ℕ) → Type 0
 Through f m i = Runs f m i (length m)
 
--- a session that starts at i ends at r, unless r is 0: whatever goes on there, if r is still in m
+-- a session that starts at i ends at r: whatever goes on there, if r is still in m
 abbrev pub SessionTo : (w : ℕ) → List ℕ → (i r : ℕ) → Type 0
-SessionTo w m i r = 0 < r → r ≤ length m → (f : Fmt) → Through f m r → Through (session w f) m i
+SessionTo w m i r = r ≤ length m → (f : Fmt) → Through f m r → Through (session w f) m i
 
 -- a table is told, and P holds of the number of its peers
 abbrev pub WithTable : Table → (ℕ → Type 0) → Type 0

@@ -6,4 +6,4 @@ pub returns-in_default : goal.returns-in_default
 returns-in_default c = never
 
 pub returns : goal.returns
-returns c = λ e. rw c.in-Holds.is (c.prefix.ensures e)
+returns c = λ e. rw c.in-Some.is (c.prefix.ensures e)
