@@ -9,7 +9,7 @@ ghost use Rattle.report_spec.specs.Tally.{bumped};
 ghost use Rattle.report_spec.specs.declared.Notice.TheVariants.{Plain, Change};
 
 use look::{is_change, sequence, states, subtype_of, type_of};
-use report_spec::{Last, Notice};
+use report_spec::Notice;
 
 fn notice_of(d: &[u8], at: usize) -> Notice
     requires { Known d.now at }
@@ -50,23 +50,21 @@ pub fn bumped(cells: [[u64; 6]; 6], old: u64, new: u64) -> [[u64; 6]; 6]
 }
 
 // The sequence after this one.
-fn following(before: u16) -> u64
+fn following(before: u16) -> u16
     ensures { result ≡ following before }
 {
-    std::num::wrapping_add_u16(before, 1) as u64
+    before.wrapping_add(1)
 }
 
 // 1 where the sequence does not follow the last one.
-pub fn broken(last: Last, sequence: u16) -> u64
+pub fn broken(last: Option<u16>, sequence: u16) -> u64
     ensures { result ≡ broken last sequence }
 {
-    let Last::Was(before) = last else {
-        return 0;
-    };
-    if following(before) != sequence as u64 {
-        return 1;
+    match last {
+        Some(before) if following(before) == sequence => 0,
+        Some(_) => 1,
+        None => 0,
     }
-    0
 }
 
 // The 39 numbers of a report.
@@ -77,10 +75,8 @@ pub fn numbers(records: u64, changes: u64, breaks: u64, cells: [[u64; 6]; 6]) ->
     all[0] = records;
     all[1] = changes;
     all[2] = breaks;
-    let mut k = 0;
-    while k < 36 {
+    for k in 0..36 {
         all[3 + k] = cells[k / 6][k % 6];
-        k += 1;
     }
     all
 }

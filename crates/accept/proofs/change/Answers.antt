@@ -9,5 +9,5 @@ returns-then-state c =
     let session = c.in-Some.ensures.1 in
     let old = rw c.number.ensures.0 at (c.state.ensures c.if-state.true) in
     λ e.
-    let new = rw c.number-then-state.ensures at (c.state-then-state.ensures e) in
+    let new = rw c.number-then-state.ensures.0 at (c.state-then-state.ensures e) in
     session (omega arith) state_change (change-runs _ _ (omega arith) old new)
