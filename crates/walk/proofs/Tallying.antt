@@ -16,8 +16,7 @@ use Rattle.walk_laws.proofs.Ahead.{Ahead, ahead_all}
 use Rattle.report_spec.specs.declared.Notice.{Notice}
 use Rattle.report_spec.specs.declared.Notice.TheVariants.{Plain, Change, Sequence}
 use Rattle.report_spec.specs.Notice.{InStates}
-use Rattle.report_spec.specs.declared.Last as last
-use Rattle.report_spec.specs.Last as before
+use Rattle.report_spec.specs.Last as last
 use Rattle.report_spec.specs.declared.Tallied.{Tallied}
 use Rattle.report_spec.specs.Own.{changes, cells, broken, last_behind, breaks_behind, numbers, own}
 use Rattle.report_spec.specs.Tally.{bumped, heeded, tally_of, tallied}
@@ -31,12 +30,12 @@ pub record Tallying (heed : Bool) (longest : ℕ) (d : List ℕ) (at : ℕ) (t :
   pub noticed : notices ≡ map (heeded heed longest) recs
   pub numbered : records ≡ length notices
   pub changes : changed ≡ changes notices
-  pub breaks : broke ≡ breaks_behind before.Absent notices
-  pub lasts : l ≡ last_behind before.Absent notices
+  pub breaks : broke ≡ breaks_behind last.Absent notices
+  pub lasts : l ≡ last_behind last.Absent notices
   pub cells : table ≡ cells notices
 
 module _ (heed : Bool) (longest : ℕ) (d : List ℕ) where
-  pub starts : Tallying heed longest d 0 Absent 0 0 0 before.Absent (replicate 6 (replicate 6 0))
+  pub starts : Tallying heed longest d 0 Absent 0 0 0 last.Absent (replicate 6 (replicate 6 0))
   starts = record { recs = []; ahead = ahead_all longest d; notices = []; noticed = refl; numbered = refl; changes = refl; breaks = refl; lasts = refl; cells = sym cells_none }
 
   -- the walk stops with fault n at p
@@ -76,7 +75,7 @@ module _ (heed : Bool) (longest : ℕ) (d : List ℕ) where
     pub on_change : (o n : ℕ) → Change o n ≡ heeded heed longest rec → InStates (Change o n) → Tallying heed longest d e u (r + 1) (c + 1) b l (bumped table o n)
     on_change o n h i = simp add-zero at (on (Change o n) h (bumped table o n) (rw k.cells (sym (cells-change k.notices o n i))))
 
-    pub on_sequence : (s : ℕ) → Sequence s ≡ heeded heed longest rec → Tallying heed longest d e u (r + 1) c (b + broken l s) (before.Was s) table
+    pub on_sequence : (s : ℕ) → Sequence s ≡ heeded heed longest rec → Tallying heed longest d e u (r + 1) c (b + broken l s) (last.Was s) table
     on_sequence s h = simp add-zero at (on (Sequence s) h table (k.cells ∙ sym (cells-sequence k.notices s)))
 
 -- the walk's answer is a part of it: the first number counts the records, heeded or not

@@ -25,8 +25,9 @@ use Rattle.report_laws.proofs.Own.{changes_few, breaks_few, cell_few}
 use Rattle.report_laws.proofs.Shown.{notice-shown}
 use Rattle.walk.proofs.Sure.{Stepped, stepped_as, Passed, passed, lent, step_on}
 use Rattle.walk.proofs.Tallying.{starts, stops, on_plain, on_change, on_sequence}
-use Rattle.walk.proofs.tally.Goals.{After-notice_at, At-loop-end, Joined-end-eq0, Joined-end-gt0, then-end-gt0+in-Unsure, then-end-gt0+in-Record, then-end-gt0+in-Table, else-end-gt0, then-end-eq0+in-Record-step_with, else-end-eq0, in-Plain, in-Change, in-Sequence}
+use Rattle.walk.proofs.tally.Goals.{After-notice_at, At-loop-end, Joined-end-eq0, Joined-end-gt0, then-end-gt0+in-Unsure, then-end-gt0+in-Record, then-end-gt0+in-Table, else-end-gt0, then-end-eq0+in-Ok-Some, else-end-eq0, in-Plain, in-Change, in-Sequence}
 use Rattle.walk.proofs.tally.Goals as goal
+use Rattle.std.specs.Prelude.{Ok}
 
 -- the dump's octets are octets
 octets : (c : At-loop-end) → Octets c.args.d.now
@@ -66,9 +67,9 @@ stepped : (c : Joined-end-eq0) → Sured c.args.longest c.args.d.now c.loop-end.
 stepped c s =
     let a = c.args in
     elim c.if-end-eq0.branch [
-      | then-end-eq0+in-Record-step_with w ↦
+      | then-end-eq0+in-Ok-Some w ↦
           let u = unsure _ _ _ _ _ _ s w.if-end-eq0.true in
-          stepped_as w.end-is w.table-is (record { item = w.in-Record-step_with.i; step = answered a.longest a.d.now c.loop-end.at _ _ _ u w.step_with.ensures ∙ w.in-Record-step_with.is; next = refl })
+          stepped_as w.end-is w.table-is (record { item = w.in-Ok-Some.i; step = answered a.longest a.d.now c.loop-end.at _ _ _ u w.step_with.ensures ∙ w.in-Ok-Some.is ∙ ap Ok w.in-Ok-Some.field-0-is; next = refl })
       | else-end-eq0 w ↦ ⊎_elim (λ h. absurd (w.if-end-eq0.false h.0)) (λ h. stepped_as w.end-is w.table-is h.1) s
     ]
 
@@ -125,20 +126,20 @@ accept-requires c =
     let e = c.end_of-end.ensures (omega arith) in
     lent a.longest a.d.now c.loop-end.at _ c.loop-end.table c.loop-end.table e.0 e.1
 
-pub returns-in-End : goal.returns-in-End
-returns-in-End c =
+pub returns-in-Ok-None : goal.returns-in-Ok-None
+returns-in-Ok-None c =
     let a = c.args in
     let i = c.loop-end.invariant in
-    let w = ends a.longest a.d.now (octets (goal.at.returns-in-End c).At-loop-end) c.loop-end.at c.loop-end.table i.recs i.ahead (answered a.longest a.d.now c.loop-end.at _ _ _ (unsure _ _ _ _ _ _ (sured (goal.at.returns-in-End c).Joined-end-gt0) c.if-end-eq0.true) c.step_with.ensures ∙ c.in-End.is) in
+    let w = ends a.longest a.d.now (octets (goal.at.returns-in-Ok-None c).At-loop-end) c.loop-end.at c.loop-end.table i.recs i.ahead (answered a.longest a.d.now c.loop-end.at _ _ _ (unsure _ _ _ _ _ _ (sured (goal.at.returns-in-Ok-None c).Joined-end-gt0) c.if-end-eq0.true) c.step_with.ensures ∙ c.in-Ok-None.is ∙ ap Ok c.in-Ok-None.field-0-is) in
     let t = c.tallied.ensures in
     stops a.heed a.longest a.d.now _ _ _ _ _ _ _ i 0 _ _ w t.0 t.1 t.2 t.3
 
-pub returns-in-Fault : goal.returns-in-Fault
-returns-in-Fault c =
+pub returns-in-Err : goal.returns-in-Err
+returns-in-Err c =
     let a = c.args in
     let i = c.loop-end.invariant in
-    let w = faults a.longest a.d.now (octets (goal.at.returns-in-Fault c).At-loop-end) c.loop-end.at c.loop-end.table i.recs i.ahead _ _ (answered a.longest a.d.now c.loop-end.at _ _ _ (unsure _ _ _ _ _ _ (sured (goal.at.returns-in-Fault c).Joined-end-gt0) c.if-end-eq0.true) c.step_with.ensures ∙ c.in-Fault.is) in
-    let t = c.tallied-in-Fault.ensures in
+    let w = faults a.longest a.d.now (octets (goal.at.returns-in-Err c).At-loop-end) c.loop-end.at c.loop-end.table i.recs i.ahead _ _ (answered a.longest a.d.now c.loop-end.at _ _ _ (unsure _ _ _ _ _ _ (sured (goal.at.returns-in-Err c).Joined-end-gt0) c.if-end-eq0.true) c.step_with.ensures ∙ c.in-Err.is) in
+    let t = c.tallied-in-Err.ensures in
     stops a.heed a.longest a.d.now _ _ _ _ _ _ _ i _ _ _ w t.0 t.1 t.2 t.3
 
 pub notice_at-requires : goal.notice_at-requires
