@@ -11,9 +11,7 @@ ghost use Rattle.listing_spec.specs.Text.{line, fault_line, walk_text, listing};
 
 use decimal::put_decimal;
 use octets::put_bytes;
-use record_spec::Table;
 use walk::step_at;
-use walk_spec::Step;
 
 // A key and its number over out, from `at` on; answers where they end.
 pub fn put_entry(out: &mut [u8], at: usize, key: &[u8], n: u64) -> usize
@@ -61,20 +59,20 @@ fn lay(d: &[u8], out: &mut [u8]) -> usize
     ensures { Lays out.old 0 (walk_text longest_message 0 (walk_all (layout longest_message) d.now)) result out.new × (result ≤ 524288) }
 {
     let mut at = 0;
-    let mut t = Table::Absent;
+    let mut t = None;
     let mut put = 0;
     loop {
         match step_at(d, at, t) {
-            Step::End => {
+            Ok(None) => {
                 return put_fault(out, put, 0, at);
             }
-            Step::Fault(n, p) => {
-                return put_fault(out, put, n, p);
-            }
-            Step::Record(i, next) => {
+            Ok(Some((i, next))) => {
                 put = put_line(out, put, i.at, i.time, i.ty, i.subtype, i.length);
                 at = i.next;
                 t = next;
+            }
+            Err(f) => {
+                return put_fault(out, put, f.number, f.place);
             }
         }
     }
