@@ -24,6 +24,7 @@ use Rattle.room_laws.proofs.Room.{Right, answers, faulty, fits-laid, long}
 use Rattle.write_laws.proofs.Sums.{cap}
 use Rattle.form_spec.specs.Refusal.{refused}
 use Rattle.std.specs.Prelude.{Err}
+use Rattle.form_spec.specs.declared.Fault.{Fault}
 
 length-octets : (g : Given) → length (octets g) ≡ 12 + length (message g)
 unfolding octets
@@ -88,14 +89,14 @@ pub record Goes (layout : ℕ → ℕ → Layout) (st : St) (g : Given) (out : L
   pub exact : size ≡ length (message g)
 
 module _ (layout : ℕ → ℕ → Layout) (st : St) (g : Given) (out : List ℕ) (n size room : ℕ) (v : Written)
-    (refused : n ≡ fields_refusal layout st g) (sized : size ≡ capped (length (message g))) (lent : room ≡ length out) (judged : v ≡ verdict_of n size room) where
+    (fields : n ≡ fields_refusal layout st g) (sized : size ≡ capped (length (message g))) (lent : room ≡ length out) (judged : v ≡ verdict_of n size room) where
   said : Says (fields_refusal layout st g) (message g) (octets g) out v
-  said = rw (judged, refused, sized, lent) (says (fields_refusal layout st g) (message g) (octets g) out (length-octets g))
+  said = rw (judged, fields, sized, lent) (says (fields_refusal layout st g) (message g) (octets g) out (length-octets g))
 
   -- a refusal: the answer is right, and so is the buffer as it was
-  pub refuses : (k p : ℕ) → v ≡ refused k p → Writes layout st g out v out
+  pub refuses : (why : Fault) → v ≡ Err why → Writes layout st g out v out
   unfolding record_refusal
-  refuses k p e = let s = rw e at said in writes layout st g out out v (e ∙ s.0) s.1
+  refuses why e = let s = rw e at said in writes layout st g out out v (e ∙ s.0) s.1
 
   pub goes : (k : ℕ) → v ≡ Octets k → Goes layout st g out size v
   unfolding record_refusal

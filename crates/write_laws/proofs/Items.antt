@@ -6,8 +6,6 @@ use Prim.Native.Nat.{ℕ, ◌+◌, ◌-◌, ◌^◌}
 use native.Mathlib.Omega.{arith}
 use lib.Dec.{leb}
 use lib.ListN.{length}
-use types.Run.{OneOf, miss}
-use denote.Enum.Declared.{tag_of}
 use Rattle.form_spec.specs.Fmt.{Out, bad, good, bind, Fmt, join, over_at}
 use Rattle.form_spec.specs.Body.{plain, ended, read_body, read_n}
 use Rattle.form_spec.specs.Pass.{whole, times}
@@ -15,24 +13,20 @@ use Rattle.form_spec.specs.Put.{fault_of, items, items_refusal}
 use Rattle.octets_laws.proofs.PutRules.{is_large, not_large}
 use Rattle.form_laws.proofs.Then.{flatly, read-times}
 use Rattle.form_laws.proofs.Whole.{outcome_body, whole_body}
-use Rattle.record_spec.specs.Shown.{Shown, Nothing, Good}
-use Rattle.record_spec.specs.contracts.Shown.{the_type}
-use Rattle.record_spec.specs.Answer.{fault}
-use Rattle.form_spec.specs.Refusal.{refused}
-use Rattle.std.specs.Prelude.{Err}
+use Rattle.form_spec.specs.Refusal.{refused, number_in}
+use Rattle.form_spec.specs.declared.Fault.{Fault}
+use Rattle.std.specs.Prelude.{Result, Ok, ⊤}
 
--- what is not refused has no fault
-pub not_refused : (s : Shown) → OneOf (0 ∷ 2 ∷ []) (tag_of the_type s) → fault s ≡ 0
-not_refused Nothing h = refl
-not_refused (Err why) h = absurd (miss (0 ∷ 2 ∷ []) 1 tt h)
-not_refused (Good x b) h = refl
+-- items that are good have nothing to show
+abbrev pub none : Result ⊤ Fault
+none = Ok tt
 
 -- reading n items and nothing behind them gives the items' fault
-items-fault : (g : Fmt) (n : ℕ) (raw : List ℕ) → fault (whole (λ fs. Nothing) refused (times n g) raw 0) ≡ fault_of (read_n g n 0 raw)
+items-fault : (g : Fmt) (n : ℕ) (raw : List ℕ) → number_in (whole (λ fs. none) refused (times n g) raw 0) ≡ fault_of (read_n g n 0 raw)
 unfolding read_body outcome_body
-items-fault g n raw = ap fault (whole_body (λ fs. Nothing) refused (times n g) raw 0 (omega arith)) ∙ rw (read-times n g 0 raw) (go (read_n g n 0 raw))
+items-fault g n raw = ap number_in (whole_body (λ fs. none) refused (times n g) raw 0 (omega arith)) ∙ rw (read-times n g 0 raw) (go (read_n g n 0 raw))
   where
-    go : (o : Out (List (List (List ℕ)))) → fault (outcome_body (λ fs. Nothing) refused (times n g) 0 (bind (flatly o) (λ cs r. ended (0 + length (join cs) - over_at (times n g) cs) (plain cs) r))) ≡ fault_of o
+    go : (o : Out (List (List (List ℕ)))) → number_in (outcome_body (λ fs. none) refused (times n g) 0 (bind (flatly o) (λ cs r. ended (0 + length (join cs) - over_at (times n g) cs) (plain cs) r))) ≡ fault_of o
     go (bad m p) = refl
     go (good its []) = refl
     go (good its (x ∷ r)) = refl
@@ -41,6 +35,6 @@ items-fault g n raw = ap fault (whole_body (λ fs. Nothing) refused (times n g) 
 pub count_large : (g : Fmt) (n : ℕ) (raw : List ℕ) (t : Bool) → t ≡ leb (256 ^ 2) n → t ≡ true → 6 ≡ items_refusal g (items n raw)
 count_large g n raw t p q = sym (rw (is_large 2 n t p q))
 
-pub items-judged : (g : Fmt) (n : ℕ) (raw : List ℕ) (t : Bool) (r : Shown) → t ≡ leb (256 ^ 2) n → t ≡ false → r ≡ whole (λ fs. Nothing) refused (times n g) raw 0
-    → fault r ≡ items_refusal g (items n raw)
-items-judged g n raw t r p q e = rw (not_large 2 n t p q) (ap fault e ∙ items-fault g n raw)
+pub items-judged : (g : Fmt) (n : ℕ) (raw : List ℕ) (t : Bool) (r : Result ⊤ Fault) → t ≡ leb (256 ^ 2) n → t ≡ false → r ≡ whole (λ fs. none) refused (times n g) raw 0
+    → number_in r ≡ items_refusal g (items n raw)
+items-judged g n raw t r p q e = rw (not_large 2 n t p q) (ap number_in e ∙ items-fault g n raw)

@@ -6,9 +6,6 @@ use Prim.Native.Nat.{ℕ, zero, suc, ◌+◌, ◌≤◌, ◌<◌}
 use native.Mathlib.Omega.{arith}
 use lib.Dec.{T, eqb, leb}
 use borrow.Author.Tests.{ne_eqb, le-leb}
-use types.Run.{OneOf, miss}
-use mir.Val.{has_key}
-use denote.Enum.Declared.{tag_of}
 use Rattle.form_spec.specs.Fmt.{Fmt}
 use Rattle.form_spec.specs.Body.{many}
 use Rattle.form_spec.specs.Put.{Value, Tail, Given, or_else, large, refusal, items_refusal, body_refusal, type_refusal, fields_refusal}
@@ -16,7 +13,6 @@ use Rattle.form_spec.specs.Shape.{St, plan}
 use Rattle.form_spec.specs.Words.{choose}
 use Rattle.page_spec.specs.Layout.{kind, layout_for, unlisted}
 use Rattle.page_spec.specs.Chosen.{Chosen, Unread, TableDump, PeerTable, Rib, RibGeneric, Change, Message}
-use Rattle.page_spec.specs.contracts.Kind.{the_type}
 use Rattle.write_spec.specs.Only.{writer, unreads, only_sub}
 use Rattle.std.specs.Prelude.{Err}
 
@@ -42,29 +38,6 @@ module _ (f g : Fmt) (vs : List Value) (t : Tail) (n : ℕ) (judged : n ≡ refu
   pub front-passes : (r : ℕ) → n ≤ 0 → r ≡ items_refusal g t → r ≡ body_refusal (many f g) vs t
   unfolding body_refusal
   front-passes r h e = rw (← judged) (e ∙ or_next n (items_refusal g t) h)
-
--- ---- whose a kind is
-
--- the tag of a writer's kinds
-abbrev tagged : (w : ℕ) → ℕ
-tagged w = cond (leb 7 w) 1 (cond (eqb w 0) 0 (suc w))
-
-pub unread_tag : (micro : ℕ) → tagged (unreads micro) ≡ 1
-unread_tag micro = rw (le-leb 7 (7 + micro) (omega arith))
-
-has_tag : (k : Chosen) → tagged (writer k) ≡ tag_of the_type k
-has_tag (Err why) = refl
-has_tag (Unread micro) = unread_tag micro
-has_tag (TableDump size) = refl
-has_tag PeerTable = refl
-has_tag (Rib bits) = refl
-has_tag RibGeneric = refl
-has_tag (Change micro w) = refl
-has_tag (Message micro w) = refl
-
--- a kind whose tag is one of ts is not of the writer w, whose kinds have the tag t: the `else` of a `let`
-pub not_own : (ts : List ℕ) (w t : ℕ) (k : Chosen) → tagged w ≡ t → T (not (has_key ts t)) → OneOf ts (tag_of the_type k) → eqb (writer k) w ≡ false
-not_own ts w t k e m h = ne_eqb (writer k) w (λ d. miss ts t m (rw (sym (has_tag k) ∙ ap tagged d ∙ e) at h))
 
 -- ---- the header: w is the writer, k the record's kind, n the number for the header's fields
 
