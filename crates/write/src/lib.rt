@@ -11,8 +11,8 @@ ghost use Rattle.octets_spec.specs.Over.{over};
 ghost use Rattle.write_spec.specs.Verdict.{capped, verdict_of};
 ghost use Rattle.write_spec.specs.Times.{stamp_of, micro_size, micros, bgp4mp};
 
+use form_spec::Fault;
 use octets::{large, put_number};
-use room_spec::Written;
 use write_spec::Time;
 
 pub fn seconds(t: Time) -> u64
@@ -84,19 +84,28 @@ pub fn head_refusal(timestamp: u64, subtype: u64) -> u8
 }
 
 // The answer of a writer that refuses its fields with `refused` (0: it does not), for a message of `size` octets and a buffer of `room`.
-pub fn verdict(refused: u8, size: usize, room: usize) -> Written
+pub fn verdict(refused: u8, size: usize, room: usize) -> Result<usize, Fault>
     ensures { result ≡ verdict_of refused size room }
 {
     if 0 < refused {
-        return Written::Refused(refused, 0);
+        return Err(Fault {
+            number: refused,
+            place: 0,
+        });
     }
     if 4294967295 < size {
-        return Written::Refused(6, 0);
+        return Err(Fault {
+            number: 6,
+            place: 0,
+        });
     }
     if room < 12 + size {
-        return Written::Refused(15, 0);
+        return Err(Fault {
+            number: 15,
+            place: 0,
+        });
     }
-    Written::Octets(12 + size)
+    Ok(12 + size)
 }
 
 pub fn put_head(out: &mut [u8], timestamp: u64, ty: u64, subtype: u64, size: u64)

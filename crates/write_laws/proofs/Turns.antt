@@ -14,7 +14,14 @@ use Rattle.form_spec.specs.Words.{choose}
 use Rattle.page_spec.specs.Layout.{kind, layout_for, unlisted}
 use Rattle.page_spec.specs.Chosen.{Chosen, Unread, TableDump, PeerTable, Rib, RibGeneric, Change, Message}
 use Rattle.write_spec.specs.Only.{writer, unreads, only_sub}
-use Rattle.std.specs.Prelude.{Err}
+use types.Run.{OneOf, miss}
+use mir.Val.{has_key}
+use denote.Enum.Declared.{tag_of}
+use Rattle.page_spec.specs.contracts.Kind.{the_type}
+use Rattle.page_spec.specs.declared.Kind.{Kind}
+use Rattle.page_spec.specs.declared.Kind.TheVariants as kinds
+use Rattle.form_spec.specs.declared.Fault.{Fault}
+use Rattle.std.specs.Prelude.{Ok, Err}
 
 or_first : (n m : ℕ) → 0 < n → n ≡ or_else n m
 or_first zero m h = absurd (omega arith)
@@ -38,6 +45,32 @@ module _ (f g : Fmt) (vs : List Value) (t : Tail) (n : ℕ) (judged : n ≡ refu
   pub front-passes : (r : ℕ) → n ≤ 0 → r ≡ items_refusal g t → r ≡ body_refusal (many f g) vs t
   unfolding body_refusal
   front-passes r h e = rw (← judged) (e ∙ or_next n (items_refusal g t) h)
+
+-- ---- whose a kind is
+
+-- the tag of a writer's kinds
+abbrev tagged : (w : ℕ) → ℕ
+tagged w = cond (leb 7 w) 0 w
+
+pub unread_tag : (micro : ℕ) → tagged (unreads micro) ≡ 0
+unread_tag micro = rw (le-leb 7 (7 + micro) (omega arith))
+
+has_tag : (k : Kind) → tagged (writer (Ok k)) ≡ tag_of the_type k
+has_tag (kinds.Unread micro) = unread_tag micro
+has_tag (kinds.TableDump size) = refl
+has_tag kinds.PeerTable = refl
+has_tag (kinds.Rib bits) = refl
+has_tag kinds.RibGeneric = refl
+has_tag (kinds.Change micro w) = refl
+has_tag (kinds.Message micro w) = refl
+
+-- a kind whose tag is one of ts is not of the writer w, whose kinds have the tag t: the `else` of a `let`
+pub not_own : (ts : List ℕ) (w t : ℕ) (k : Kind) → tagged w ≡ t → T (not (has_key ts t)) → OneOf ts (tag_of the_type k) → eqb (writer (Ok k)) w ≡ false
+not_own ts w t k e m h = ne_eqb (writer (Ok k)) w (λ d. miss ts t m (rw (sym (has_tag k) ∙ ap tagged d ∙ e) at h))
+
+-- a Subtype that has no layout is no writer's
+pub no_one : (w : ℕ) (why : Fault) → 0 < w → eqb (writer (Err why)) w ≡ false
+no_one w why h = ne_eqb 0 w (λ e. omega arith)
 
 -- ---- the header: w is the writer, k the record's kind, n the number for the header's fields
 

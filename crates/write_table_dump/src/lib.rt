@@ -12,10 +12,10 @@ ghost use Rattle.write_spec.specs.Only.{only_sub, table_dumps};
 ghost use Rattle.write_spec.specs.Givens.{route_values, table_dump_given};
 ghost use Rattle.write_spec.specs.Verdict.{Writes};
 
+use form_spec::Fault;
 use kind::kind_12;
 use octets::{large, put_bytes, put_number};
 use page_spec::Kind;
-use room_spec::Written;
 use write::{add, head_refusal, put_head, verdict};
 
 // Behind the prefix length.
@@ -109,7 +109,10 @@ fn dump_refusal(
     if 0 < n {
         return n;
     }
-    let Kind::TableDump(size) = kind_12(subtype) else {
+    let Ok(listed) = kind_12(subtype) else {
+        return 4;
+    };
+    let Kind::TableDump(size) = listed else {
         return 4;
     };
     route_refusal(
@@ -167,7 +170,7 @@ pub fn write_table_dump(
     peer: u64,
     attributes: &[u8],
     out: &mut [u8],
-) -> Written
+) -> Result<usize, Fault>
     ensures { Writes (only_sub table_dumps longest_message) no_table (table_dump_given timestamp subtype view sequence prefix.now bits status originated address.now peer attributes.now) out.old result out.new }
 {
     let n = dump_refusal(
@@ -175,12 +178,9 @@ pub fn write_table_dump(
         attributes,
     );
     let size = add(add(add(14, prefix.len()), address.len()), attributes.len());
-    let v = verdict(n, size, out.len());
-    let Written::Octets(_) = v else {
-        return v;
-    };
+    let written = verdict(n, size, out.len())?;
     put_head(out, timestamp, 12, subtype, size as u64);
     let at = put_front(out, view, sequence, prefix, bits);
     put_rest(out, at, status, originated, address, peer, attributes);
-    v
+    Ok(written)
 }
