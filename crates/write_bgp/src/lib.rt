@@ -14,12 +14,12 @@ ghost use Rattle.write_spec.specs.Givens.{session_values, state_values, bgp_valu
 ghost use Rattle.write_spec.specs.Verdict.{Writes, capped};
 ghost use Rattle.write_bgp.specs.Opening.{opening_values, opening_size};
 
+use form_spec::Fault;
 use bgp::message_at;
 use kind::kind_16;
 use octets::{large, put_bytes, put_number};
 use page_spec::{Kind, LONGEST_MESSAGE};
-use record_spec::{Header, Part, Session, Shown};
-use room_spec::Written;
+use record_spec::{Header, Part, Session};
 use write::{
     add, bgp_type, head_refusal, micro, put_head, put_micros, seconds, stamped_refusal, verdict,
 };
@@ -69,10 +69,10 @@ fn message_refusal(longest: u64, b: &[u8]) -> u8
         theirs: none,
         ours: none,
     };
-    let Shown::Refused(n, _) = message_at(b, 0, longest, h, s) else {
-        return 0;
-    };
-    n
+    match message_at(b, 0, longest, h, s) {
+        Ok(_) => 0,
+        Err(f) => f.number,
+    }
 }
 
 // The addresses, before fields that are refused with `rest`.
@@ -148,7 +148,10 @@ fn change_refusal(
     if 0 < n {
         return n;
     }
-    let Kind::Change(_, width) = kind_16(micro(time), subtype) else {
+    let Ok(listed) = kind_16(micro(time), subtype) else {
+        return 4;
+    };
+    let Kind::Change(_, width) = listed else {
         return 4;
     };
     let states = states_refusal(old, new);
@@ -177,7 +180,10 @@ fn bgp_refusal(
     if 0 < n {
         return n;
     }
-    let Kind::Message(_, width) = kind_16(micro(time), subtype) else {
+    let Ok(listed) = kind_16(micro(time), subtype) else {
+        return 4;
+    };
+    let Kind::Message(_, width) = listed else {
         return 4;
     };
     let rest = message_refusal(longest, message);
@@ -220,8 +226,8 @@ fn width_of(time: Time, subtype: u64) -> usize
     ensures { (result ≡ as_octets (kind (bgp4mp time) subtype)) × (result ≤ 4) }
 {
     match kind_16(micro(time), subtype) {
-        Kind::Change(_, width) => width,
-        Kind::Message(_, width) => width,
+        Ok(Kind::Change(_, width)) => width,
+        Ok(Kind::Message(_, width)) => width,
         _ => 0,
     }
 }
@@ -276,7 +282,7 @@ pub fn write_change(
     old: u64,
     new: u64,
     out: &mut [u8],
-) -> Written
+) -> Result<usize, Fault>
     ensures { Writes (only_sub changes longest_message) no_table (change_given time subtype peer local interface family theirs.now ours.now old new) out.old result out.new }
 {
     let n = change_refusal(
@@ -284,14 +290,11 @@ pub fn write_change(
     );
     let w = width_of(time, subtype);
     let size = add(opening_size(time, w, theirs, ours), 4);
-    let v = verdict(n, size, out.len());
-    let Written::Octets(_) = v else {
-        return v;
-    };
+    let written = verdict(n, size, out.len())?;
     put_head(out, seconds(time), bgp_type(time), subtype, size as u64);
     let at = put_opening(out, time, w, peer, local, interface, family, theirs, ours);
     put_states(out, at, old, new);
-    v
+    Ok(written)
 }
 
 // A BGP message of at most `longest` octets.
@@ -307,7 +310,7 @@ fn write_message_with(
     ours: &[u8],
     message: &[u8],
     out: &mut [u8],
-) -> Written
+) -> Result<usize, Fault>
     ensures { Writes (only_sub messages longest) no_table (message_given time subtype peer local interface family theirs.now ours.now message.now) out.old result out.new }
 {
     let n = bgp_refusal(
@@ -315,14 +318,11 @@ fn write_message_with(
     );
     let w = width_of(time, subtype);
     let size = add(opening_size(time, w, theirs, ours), message.len());
-    let v = verdict(n, size, out.len());
-    let Written::Octets(_) = v else {
-        return v;
-    };
+    let written = verdict(n, size, out.len())?;
     put_head(out, seconds(time), bgp_type(time), subtype, size as u64);
     let at = put_opening(out, time, w, peer, local, interface, family, theirs, ours);
     put_bytes(message, out, at);
-    v
+    Ok(written)
 }
 
 // A BGP message, of type 16, or 17 with microseconds.
@@ -337,7 +337,7 @@ pub fn write_message(
     ours: &[u8],
     message: &[u8],
     out: &mut [u8],
-) -> Written
+) -> Result<usize, Fault>
     ensures { Writes (only_sub messages longest_message) no_table (message_given time subtype peer local interface family theirs.now ours.now message.now) out.old result out.new }
 {
     write_message_with(

@@ -12,10 +12,9 @@ ghost use Rattle.write_spec.specs.Only.{only_sub, peer_tables};
 ghost use Rattle.write_spec.specs.Givens.{peer_table_given};
 ghost use Rattle.write_spec.specs.Verdict.{Writes};
 
+use form_spec::Fault;
 use octets::{large, put_bytes, put_number};
 use peers::peers_at;
-use record_spec::Shown;
-use room_spec::Written;
 use text::is_text;
 use write::{add, put_head, verdict};
 
@@ -26,10 +25,10 @@ fn peers_refusal(peers: &[u8], count: u64) -> u8
     if large(count, 2) {
         return 6;
     }
-    let Shown::Refused(n, _) = peers_at(peers, 0, count, Shown::Nothing) else {
-        return 0;
-    };
-    n
+    match peers_at(peers, 0, count, ()) {
+        Ok(()) => 0,
+        Err(f) => f.number,
+    }
 }
 
 fn front_refusal(collector: u64, name: &[u8]) -> u8
@@ -82,16 +81,13 @@ pub fn write_peer_table(
     count: u64,
     peers: &[u8],
     out: &mut [u8],
-) -> Written
+) -> Result<usize, Fault>
     ensures { Writes (only_sub peer_tables longest_message) no_table (peer_table_given timestamp collector name.now count peers.now) out.old result out.new }
 {
     let n = table_refusal(timestamp, collector, name, count, peers);
     let size = add(add(8, name.len()), peers.len());
-    let v = verdict(n, size, out.len());
-    let Written::Octets(_) = v else {
-        return v;
-    };
+    let written = verdict(n, size, out.len())?;
     put_head(out, timestamp, 13, 1, size as u64);
     put_table(out, collector, name, count, peers);
-    v
+    Ok(written)
 }

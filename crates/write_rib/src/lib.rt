@@ -12,12 +12,12 @@ ghost use Rattle.write_spec.specs.Only.{only_sub, ribs, generic_ribs};
 ghost use Rattle.write_spec.specs.Givens.{rib_given, rib_generic_given};
 ghost use Rattle.write_spec.specs.Verdict.{Writes};
 
+use form_spec::Fault;
 use kind::kind_13;
 use octets::{large, put_bytes, put_number};
 use page_spec::Kind;
-use record_spec::{Shown, Table};
+use record_spec::Table;
 use rib::entries_at;
-use room_spec::Written;
 use write::{add, head_refusal, put_head, verdict};
 
 // Entries are judged by the reader, as they stand.
@@ -27,10 +27,10 @@ fn entries_refusal(entries: &[u8], count: u64, peers: u64) -> u8
     if large(count, 2) {
         return 6;
     }
-    let Shown::Refused(n, _) = entries_at(entries, 0, count, peers, Shown::Nothing) else {
-        return 0;
-    };
-    n
+    match entries_at(entries, 0, count, peers, ()) {
+        Ok(()) => 0,
+        Err(f) => f.number,
+    }
 }
 
 // A prefix of at most `most` bits, and nothing behind it.
@@ -71,10 +71,13 @@ fn rib_refusal(
     if 0 < n {
         return n;
     }
-    let Kind::Rib(most) = kind_13(subtype) else {
+    let Ok(listed) = kind_13(subtype) else {
         return 4;
     };
-    let Table::Holds(peers) = told else {
+    let Kind::Rib(most) = listed else {
+        return 4;
+    };
+    let Some(peers) = told else {
         return 12;
     };
     if large(sequence, 4) {
@@ -136,7 +139,7 @@ fn generic_rib_refusal(
     if 0 < n {
         return n;
     }
-    let Table::Holds(peers) = told else {
+    let Some(peers) = told else {
         return 12;
     };
     let p = generic_refusal(sequence, family, safi, bits, prefix);
@@ -170,21 +173,18 @@ pub fn write_rib(
     count: u64,
     entries: &[u8],
     out: &mut [u8],
-) -> Written
+) -> Result<usize, Fault>
     ensures { Writes (only_sub ribs longest_message) (state_of told) (rib_given timestamp subtype sequence bits prefix.now count entries.now) out.old result out.new }
 {
     let n = rib_refusal(
         timestamp, subtype, told, sequence, bits, prefix, count, entries,
     );
     let size = add(add(7, prefix.len()), entries.len());
-    let v = verdict(n, size, out.len());
-    let Written::Octets(_) = v else {
-        return v;
-    };
+    let written = verdict(n, size, out.len())?;
     put_head(out, timestamp, 13, subtype, size as u64);
     put_number(out, 12, 4, sequence);
     put_entries(out, 16, bits, prefix, count, entries);
-    v
+    Ok(written)
 }
 
 // A RIB record of subtype 6.
@@ -199,21 +199,18 @@ pub fn write_rib_generic(
     count: u64,
     entries: &[u8],
     out: &mut [u8],
-) -> Written
+) -> Result<usize, Fault>
     ensures { Writes (only_sub generic_ribs longest_message) (state_of told) (rib_generic_given timestamp sequence family safi bits prefix.now count entries.now) out.old result out.new }
 {
     let n = generic_rib_refusal(
         timestamp, told, sequence, family, safi, bits, prefix, count, entries,
     );
     let size = add(add(10, prefix.len()), entries.len());
-    let v = verdict(n, size, out.len());
-    let Written::Octets(_) = v else {
-        return v;
-    };
+    let written = verdict(n, size, out.len())?;
     put_head(out, timestamp, 13, 6, size as u64);
     put_number(out, 12, 4, sequence);
     put_number(out, 16, 2, family);
     put_number(out, 18, 1, safi);
     put_entries(out, 19, bits, prefix, count, entries);
-    v
+    Ok(written)
 }

@@ -10,10 +10,10 @@ ghost use Rattle.write_spec.specs.Only.{only_type, unreads};
 ghost use Rattle.write_spec.specs.Givens.{unread_given};
 ghost use Rattle.write_spec.specs.Verdict.{Writes};
 
+use form_spec::Fault;
 use kind::kind_of;
 use octets::{large, put_bytes};
 use page_spec::Kind;
-use room_spec::Written;
 use write::{add, micro, put_head, put_micros, seconds, stamped_refusal, verdict};
 use write_spec::Time;
 
@@ -27,7 +27,10 @@ fn unread_refusal(time: Time, ty: u64, subtype: u64, contents: &[u8]) -> u8
     if large(ty, 2) {
         return 6;
     }
-    let Kind::Unread(n) = kind_of(ty, subtype) else {
+    let Ok(listed) = kind_of(ty, subtype) else {
+        return 3;
+    };
+    let Kind::Unread(n) = listed else {
         return 3;
     };
     if n != micro(time) {
@@ -40,16 +43,14 @@ fn unread_refusal(time: Time, ty: u64, subtype: u64, contents: &[u8]) -> u8
 }
 
 // A record of an unread type: with a Timestamp alone, or with microseconds too.
-pub fn write_unread(time: Time, ty: u64, subtype: u64, contents: &[u8], out: &mut [u8]) -> Written
+pub fn write_unread(time: Time, ty: u64, subtype: u64, contents: &[u8], out: &mut [u8]) -> Result<usize, Fault>
     ensures { Writes (only_type (unreads (micro_size time)) longest_message) no_table (unread_given time ty subtype contents.now) out.old result out.new }
 {
     let size = add(micro(time), contents.len());
-    let v = verdict(unread_refusal(time, ty, subtype, contents), size, out.len());
-    let Written::Octets(_) = v else {
-        return v;
-    };
+    let n = unread_refusal(time, ty, subtype, contents);
+    let written = verdict(n, size, out.len())?;
     put_head(out, seconds(time), ty, subtype, size as u64);
     let at = put_micros(out, time);
     put_bytes(contents, out, at);
-    v
+    Ok(written)
 }

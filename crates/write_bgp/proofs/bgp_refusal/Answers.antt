@@ -10,9 +10,10 @@ use Rattle.page_spec.specs.Layout.{kind, layout_for}
 use Rattle.write_spec.specs.Times.{stamp_of, bgp4mp}
 use Rattle.write_spec.specs.Only.{as_octets, messages}
 use Rattle.write_spec.specs.Givens.{bgp_values, message_given}
-use Rattle.write_laws.proofs.Turns.{not_own, stops, others, owns}
+use Rattle.write_laws.proofs.Turns.{not_own, no_one, stops, others, owns}
 use Rattle.write_bgp.proofs.Laws.{type-fits, Found, found}
 use borrow.Author.Rules.{rules}
+use Rattle.std.specs.Prelude.{Ok}
 use borrow.Enum.Refused.{opened}
 use Rattle.write_bgp.proofs.bgp_refusal.Goals.{After-head_refusal-n, After-kind_16, Start}
 use Rattle.write_bgp.proofs.bgp_refusal.Goals as goal
@@ -33,22 +34,27 @@ kind_found c =
     found _ _ _ _ c.micro.ensures c.kind_16.ensures
 
 pub session_refusal-requires : goal.session_refusal-requires
-session_refusal-requires c = let s = rw c.in-Message.is at (kind_found (goal.at.session_refusal-requires c).After-kind_16).sane in search rules
+session_refusal-requires c = let s = rw (c.in-Ok.is ∙ ap Ok c.in-Message.is) at (kind_found (goal.at.session_refusal-requires c).After-kind_16).sane in search rules
 
 pub returns-then-n-gt0 : goal.returns-then-n-gt0
 returns-then-n-gt0 c = stops c.args.longest messages no_table (given (goal.at.returns-then-n-gt0 c).Start) _ _ (lit< tt) (type-fits c.args.time) refl (head (goal.at.returns-then-n-gt0 c).After-head_refusal-n) (search rules)
 
 pub returns-in_default : goal.returns-in_default
 returns-in_default c =
-    let other = not_own (0 ∷ 1 ∷ 2 ∷ 3 ∷ 4 ∷ 5 ∷ 6 ∷ []) messages 7 c.kind_16.result refl tt (opened c.in_default.in_default-own.keys2) in
-    others c.args.longest messages no_table (given (goal.at.returns-in_default c).Start) _ _ (lit< tt) (type-fits c.args.time) (sym (kind_found (goal.at.returns-in_default c).After-kind_16).page) (head (goal.at.returns-in_default c).After-head_refusal-n) (search rules) other
+    let other = no_one messages c.in_default.field-0 (lit< tt) in
+    others c.args.longest messages no_table (given (goal.at.returns-in_default c).Start) _ _ (lit< tt) (type-fits c.args.time) (sym (kind_found (goal.at.returns-in_default c).After-kind_16).page ∙ c.in_default.is) (head (goal.at.returns-in_default c).After-head_refusal-n) (search rules) other
+
+pub returns-in_default-listed : goal.returns-in_default-listed
+returns-in_default-listed c =
+    let other = not_own (0 ∷ 1 ∷ 2 ∷ 3 ∷ 4 ∷ 5 ∷ []) messages 6 _ refl tt (opened c.in_default-listed.in_default-listed-own.keys2) in
+    others c.args.longest messages no_table (given (goal.at.returns-in_default-listed c).Start) _ _ (lit< tt) (type-fits c.args.time) (sym (kind_found (goal.at.returns-in_default-listed c).After-kind_16).page ∙ c.in-Ok.is) (head (goal.at.returns-in_default-listed c).After-head_refusal-n) (search rules) other
 
 pub returns : goal.returns
 unfolding layout_for plan body_refusal
 returns c =
     let a = c.args in
     let k = kind_found (goal.at.returns c).After-kind_16 in
-    let e = c.in-Message.is in
+    let e = c.in-Ok.is ∙ ap Ok c.in-Message.is in
     let m = rw e at k.stamps in
     let w : as_octets (kind (bgp4mp a.time) a.subtype) ≡ c.in-Message.width = ap as_octets (sym k.page ∙ e) in
     owns c.args.longest messages no_table (given (goal.at.returns c).Start) _ _ (lit< tt) (type-fits a.time) (sym k.page ∙ e) (head (goal.at.returns c).After-head_refusal-n) _ (search rules) refl

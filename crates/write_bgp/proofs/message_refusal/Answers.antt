@@ -3,10 +3,8 @@ use mathlib.Core.Path.{sym, ap, ◌∙◌}
 use Rattle.record_spec.specs.declared.Part.{Part}
 use Rattle.record_spec.specs.declared.Header.{Header}
 use Rattle.record_spec.specs.declared.Session.{Session}
-use Rattle.record_spec.specs.Answer.{fault}
-use Rattle.write_laws.proofs.Items.{not_refused}
+use Rattle.form_spec.specs.Refusal.{number_in}
 use Rattle.write_bgp.proofs.Judged.{judged}
-use borrow.Enum.Refused.{opened}
 use Rattle.write_bgp.proofs.message_refusal.Goals as goal
 
 -- the message stands alone
@@ -19,8 +17,8 @@ header = record { timestamp = 0; ty = 0; subtype = 0; length = 0; microseconds =
 abbrev session : Session
 session = record { peer = 0; local = 0; interface = 0; family = 0; theirs = part; ours = part }
 
-pub returns-in_default : goal.returns-in_default
-returns-in_default c = sym (not_refused c.message_at.result (opened c.in_default.in_default-own.keys2)) ∙ judged _ header session c.args.b.now _ c.message_at.ensures
+pub returns-in-Ok : goal.returns-in-Ok
+returns-in-Ok c = sym (ap number_in c.in-Ok.is) ∙ judged _ header session c.args.b.now _ c.message_at.ensures
 
-pub returns : goal.returns
-returns c = sym (ap fault c.in-Refused.is) ∙ judged _ header session c.args.b.now _ c.message_at.ensures
+pub returns-in-Err : goal.returns-in-Err
+returns-in-Err c = sym (ap number_in c.in-Err.is) ∙ judged _ header session c.args.b.now _ c.message_at.ensures

@@ -16,16 +16,18 @@ use Rattle.write_laws.proofs.Sums.{summed}
 use Rattle.write_laws.proofs.Answers.{refuses, Goes, goes, done}
 use Rattle.write_laws.proofs.Laid.{none, values}
 use Rattle.write_bgp.specs.Opening.{opening_values, opening_size}
+use Rattle.std.specs.Prelude.{Err}
+use Rattle.room_spec.specs.Written.{Octets}
 use Rattle.write_bgp.proofs.Laws.{pieces, opened_long, behind_long}
 use borrow.Author.Rules.{rules}
-use Rattle.write_bgp.proofs.write_message_with.Goals.{After-verdict-v, In-Octets}
+use Rattle.write_bgp.proofs.write_message_with.Goals.{After-verdict, In_ok-written}
 use Rattle.write_bgp.proofs.write_message_with.Goals as goal
 
-abbrev given : After-verdict-v → Given
+abbrev given : After-verdict → Given
 given c =
     let a = c.args in message_given a.time a.subtype a.peer a.local a.interface a.family a.theirs.now a.ours.now a.message.now
 
-long : (c : After-verdict-v) → let given : (Given) = let a = c.args in message_given a.time a.subtype a.peer a.local a.interface a.family a.theirs.now a.ours.now a.message.now in let a = c.args in opening_size a.time (c.width_of-w.result) a.theirs.now a.ours.now + length a.message.now ≡ length (message given)
+long : (c : After-verdict) → let given : (Given) = let a = c.args in message_given a.time a.subtype a.peer a.local a.interface a.family a.theirs.now a.ours.now a.message.now in let a = c.args in opening_size a.time (c.width_of-w.result) a.theirs.now a.ours.now + length a.message.now ≡ length (message given)
 long c =
     let given : (Given) = let a = c.args in message_given a.time a.subtype a.peer a.local a.interface a.family a.theirs.now a.ours.now a.message.now in
     let a = c.args in
@@ -34,50 +36,54 @@ long c =
     let b = behind_long a.time (as_octets (kind (bgp4mp a.time) a.subtype)) a.peer a.local a.interface a.family a.theirs.now a.ours.now (bgp_values a.message.now) a.subtype in
     omega arith
 
-sized : (c : After-verdict-v) → let given : (Given) = let a = c.args in message_given a.time a.subtype a.peer a.local a.interface a.family a.theirs.now a.ours.now a.message.now in c.add-size.result ≡ capped (length (message given))
+sized : (c : After-verdict) → let given : (Given) = let a = c.args in message_given a.time a.subtype a.peer a.local a.interface a.family a.theirs.now a.ours.now a.message.now in c.add-size.result ≡ capped (length (message given))
 sized c =
     let given : (Given) = let a = c.args in message_given a.time a.subtype a.peer a.local a.interface a.family a.theirs.now a.ours.now a.message.now in
     let long : (let a = c.args in opening_size a.time (c.width_of-w.result) a.theirs.now a.ours.now + length a.message.now ≡ length (message given)) = let a = c.args in let w = c.width_of-w.ensures.0 in let l = ap length (pieces a.message.now) in let b = behind_long a.time (as_octets (kind (bgp4mp a.time) a.subtype)) a.peer a.local a.interface a.family a.theirs.now a.ours.now (bgp_values a.message.now) a.subtype in omega arith in
     summed _ _ _ _ c.opening_size.ensures c.add-size.ensures ∙ ap capped long
 
 -- ---- the record goes into the buffer
-fine : (c : In-Octets) → let given : (Given) = let a = c.args in message_given a.time a.subtype a.peer a.local a.interface a.family a.theirs.now a.ours.now a.message.now in
-    Goes (only_sub messages c.args.longest) no_table given c.args.out.now c.add-size.result c.verdict-v.result
+fine : (c : In_ok-written) → let given : (Given) = let a = c.args in message_given a.time a.subtype a.peer a.local a.interface a.family a.theirs.now a.ours.now a.message.now in
+    Goes (only_sub messages c.args.longest) no_table given c.args.out.now c.add-size.result (Octets c.in_ok-written.written)
 fine c =
     let given : (Given) = let a = c.args in message_given a.time a.subtype a.peer a.local a.interface a.family a.theirs.now a.ours.now a.message.now in
     let long : (let a = c.args in opening_size a.time (c.width_of-w.result) a.theirs.now a.ours.now + length a.message.now ≡ length (message given)) = let a = c.args in let w = c.width_of-w.ensures.0 in let l = ap length (pieces a.message.now) in let b = behind_long a.time (as_octets (kind (bgp4mp a.time) a.subtype)) a.peer a.local a.interface a.family a.theirs.now a.ours.now (bgp_values a.message.now) a.subtype in omega arith in
     let sized : (c.add-size.result ≡ capped (length (message given))) = summed _ _ _ _ c.opening_size.ensures c.add-size.ensures ∙ ap capped long in
-    goes _ no_table given c.args.out.now _ _ _ _ c.bgp_refusal-n.ensures sized refl c.verdict-v.ensures _ c.in-Octets.is
+    goes _ no_table given c.args.out.now _ _ _ _ c.bgp_refusal-n.ensures sized refl c.in_ok-written.ensures _ refl
 
-room : (c : In-Octets) → let a = c.args in
+room : (c : In_ok-written) → let a = c.args in
     12 + (opening_size a.time (c.width_of-w.result) a.theirs.now a.ours.now + length a.message.now) ≤ length a.out.now
 room c =
     let given : (Given) = let a = c.args in message_given a.time a.subtype a.peer a.local a.interface a.family a.theirs.now a.ours.now a.message.now in
     let long : (let a = c.args in opening_size a.time (c.width_of-w.result) a.theirs.now a.ours.now + length a.message.now ≡ length (message given)) = let a = c.args in let w = c.width_of-w.ensures.0 in let l = ap length (pieces a.message.now) in let b = behind_long a.time (as_octets (kind (bgp4mp a.time) a.subtype)) a.peer a.local a.interface a.family a.theirs.now a.ours.now (bgp_values a.message.now) a.subtype in omega arith in
     let sized : (c.add-size.result ≡ capped (length (message given))) = summed _ _ _ _ c.opening_size.ensures c.add-size.ensures ∙ ap capped long in
-    let fine : (Goes (only_sub messages c.args.longest) no_table given c.args.out.now c.add-size.result c.verdict-v.result) = goes _ no_table given c.args.out.now _ _ _ _ c.bgp_refusal-n.ensures sized refl c.verdict-v.ensures _ c.in-Octets.is in
+    let fine : (Goes (only_sub messages c.args.longest) no_table given c.args.out.now c.add-size.result (Octets c.in_ok-written.written)) = goes _ no_table given c.args.out.now _ _ _ _ c.bgp_refusal-n.ensures sized refl c.in_ok-written.ensures _ refl in
     rw long fine.space
 
-pub returns-in_default : goal.returns-in_default
-returns-in_default c = refuses _ _ (given (goal.at.returns-in_default c).After-verdict-v) c.args.out.now _ _ _ _ c.bgp_refusal-n.ensures (sized (goal.at.returns-in_default c).After-verdict-v) refl c.verdict-v.ensures _ _ c.in_default.is
+pub returns-in_err-written : goal.returns-in_err-written
+returns-in_err-written c =
+    let a = c.args in
+    let why = c.in_err-written.field-0.0 in
+    let passed : c.from_residual.result ≡ Err why = search rules in
+    refuses _ _ (given (goal.at.returns-in_err-written c).After-verdict) c.args.out.now _ _ _ _ c.bgp_refusal-n.ensures (sized (goal.at.returns-in_err-written c).After-verdict) refl (passed ∙ c.in_err-written.ensures) why passed
 
 pub put_head-requires : goal.put_head-requires
-put_head-requires c = let r = room (goal.at.put_head-requires c).In-Octets in search rules
+put_head-requires c = let r = room (goal.at.put_head-requires c).In_ok-written in search rules
 
 pub put_opening-at-requires : goal.put_opening-at-requires
-put_opening-at-requires c = let r = room (goal.at.put_opening-at-requires c).In-Octets in search rules
+put_opening-at-requires c = let r = room (goal.at.put_opening-at-requires c).In_ok-written in search rules
 
 pub put_bytes-requires : goal.put_bytes-requires
-put_bytes-requires c = let r = room (goal.at.put_bytes-requires c).In-Octets in let e = c.put_opening-at.ensures.0 in search rules
+put_bytes-requires c = let r = room (goal.at.put_bytes-requires c).In_ok-written in let e = c.put_opening-at.ensures.0 in search rules
 
 pub returns : goal.returns
 returns c =
     let a = c.args in
-    let r = room (goal.at.returns c).In-Octets in
+    let r = room (goal.at.returns c).In_ok-written in
     let at = c.put_opening-at.ensures.0 in
     let h : List ℕ = c.put_head.new.out in
     let x1 = values (none h 12 (search rules)) (opening_values a.time (c.width_of-w.result) a.peer a.local a.interface a.family a.theirs.now a.ours.now) _ (opened_long a.time (c.width_of-w.result) a.peer a.local a.interface a.family a.theirs.now a.ours.now) c.put_opening-at.ensures.1 (omega arith) (search rules) in
     let b = pieces a.message.now in
     let x2 = values x1 (bgp_values a.message.now) (length a.message.now) (ap length b) (c.put_bytes.ensures ∙ ap (over _ _) (sym b)) (omega arith) (search rules) in
     let headed = rw (c.seconds.ensures, c.bgp_type.ensures) at c.put_head.ensures in
-    done _ _ _ _ _ _ _ _ (fine (goal.at.returns c).In-Octets) headed (x2.is ∙ ap (over h 12) (rw (sym (c.width_of-w.ensures.0), append_assoc (micros a.time)) (simp append-nil)))
+    done _ _ _ _ _ _ _ _ (fine (goal.at.returns c).In_ok-written) headed (x2.is ∙ ap (over h 12) (rw (sym (c.width_of-w.ensures.0), append_assoc (micros a.time)) (simp append-nil)))

@@ -43,10 +43,10 @@ returns-in_default c = λ longest. passes longest _ (goal.at.returns-in_default 
 pub returns-then-p-gt0 : goal.returns-then-p-gt0
 returns-then-p-gt0 c =
     λ longest.
-    let held = c.in-Holds.is in
+    let held = c.in-Some.is in
     passes longest _ (goal.at.returns-then-p-gt0 c).Else-n-gt0 (held_stops _ _ _ _ _ _ held c.generic_refusal-p.ensures c.if-p-gt0.true)
 
 pub returns : goal.returns
 returns c =
     λ longest.
-    passes longest _ (goal.at.returns c).Else-n-gt0 (held_passes _ _ _ _ _ _ c.in-Holds.is c.generic_refusal-p.ensures _ c.if-p-gt0.false c.entries_refusal.ensures)
+    passes longest _ (goal.at.returns c).Else-n-gt0 (held_passes _ _ _ _ _ _ c.in-Some.is c.generic_refusal-p.ensures _ c.if-p-gt0.false c.entries_refusal.ensures)

@@ -1,5 +1,5 @@
 -- `write_rib::rib_refusal` meets its contract.
-use mathlib.Core.Path.{◌≡◌, refl, sym, ◌∙◌}
+use mathlib.Core.Path.{◌≡◌, refl, sym, ap, ◌∙◌}
 use mathlib.Core.List.{[], ◌∷◌}
 use Prim.Native.Nat.{ℕ}
 use native.Mathlib.Omega.{arith}
@@ -15,8 +15,9 @@ use Rattle.octets_laws.proofs.PutRules.{number_fits, number_large}
 use Rattle.page_laws.proofs.Widths.{sane13}
 use Rattle.write_spec.specs.Only.{only_sub, ribs}
 use Rattle.write_spec.specs.Givens.{rib_given}
-use Rattle.write_laws.proofs.Turns.{not_own, stops, others, owns}
+use Rattle.write_laws.proofs.Turns.{not_own, no_one, stops, others, owns}
 use Rattle.write_rib.proofs.Laws.{no_table, held_stops, held_passes}
+use Rattle.std.specs.Prelude.{Ok}
 use borrow.Enum.Refused.{opened}
 use Rattle.write_rib.proofs.rib_refusal.Goals.{After-prefix_refusal-p, In-Rib, Start}
 use Rattle.write_rib.proofs.rib_refusal.Goals as goal
@@ -28,7 +29,7 @@ given s =
 
 kind_is : (c : In-Rib) → kind13 c.args.subtype ≡ Rib (c.in-Rib.most)
 kind_is c =
-    sym c.kind_13.ensures ∙ c.in-Rib.is
+    sym c.kind_13.ensures ∙ c.in-Ok.is ∙ ap Ok c.in-Rib.is
 
 -- the message is refused with r
 passes : (longest r : ℕ) (c : In-Rib) → let given : (Given) = let a = c.args in rib_given a.timestamp a.subtype a.sequence a.bits a.prefix.now a.count a.entries.now in
@@ -37,7 +38,7 @@ passes : (longest r : ℕ) (c : In-Rib) → let given : (Given) = let a = c.args
 unfolding kind choose layout_for
 passes longest r c h =
     let given : (Given) = let a = c.args in rib_given a.timestamp a.subtype a.sequence a.bits a.prefix.now a.count a.entries.now in
-    let kind_is : (kind13 c.args.subtype ≡ Rib (c.in-Rib.most)) = sym c.kind_13.ensures ∙ c.in-Rib.is in
+    let kind_is : (kind13 c.args.subtype ≡ Rib (c.in-Rib.most)) = sym c.kind_13.ensures ∙ c.in-Ok.is ∙ ap Ok c.in-Rib.is in
     owns longest ribs (state_of c.args.told) given _ _ (omega arith) refl kind_is c.head_refusal-n.ensures r c.if-n-gt0.false refl h
 
 -- the number for the fields before the count
@@ -57,8 +58,13 @@ pub returns-in_default : goal.returns-in_default
 unfolding kind choose
 returns-in_default c =
     λ longest.
-    let k = c.kind_13 in
-    others longest ribs (state_of c.args.told) (given (goal.at.returns-in_default c).Start) _ _ (omega arith) refl (sym k.ensures) c.head_refusal-n.ensures c.if-n-gt0.false (not_own (0 ∷ 1 ∷ 2 ∷ 3 ∷ 5 ∷ 6 ∷ 7 ∷ []) ribs 4 k.result refl tt (opened c.in_default.in_default-own.keys2))
+    others longest ribs (state_of c.args.told) (given (goal.at.returns-in_default c).Start) _ _ (omega arith) refl (sym c.kind_13.ensures ∙ c.in_default.is) c.head_refusal-n.ensures c.if-n-gt0.false (no_one ribs c.in_default.field-0 (omega arith))
+
+pub returns-in_default-listed : goal.returns-in_default-listed
+unfolding kind choose
+returns-in_default-listed c =
+    λ longest.
+    others longest ribs (state_of c.args.told) (given (goal.at.returns-in_default-listed c).Start) _ _ (omega arith) refl (sym c.kind_13.ensures ∙ c.in-Ok.is) c.head_refusal-n.ensures c.if-n-gt0.false (not_own (0 ∷ 1 ∷ 2 ∷ 4 ∷ 5 ∷ 6 ∷ []) ribs 3 _ refl tt (opened c.in_default-listed.in_default-listed-own.keys2))
 
 pub returns-in_default-told : goal.returns-in_default-told
 returns-in_default-told c = λ longest. passes longest _ (goal.at.returns-in_default-told c).In-Rib (no_table _ _ _ _ _ c.in_default-told.is)
@@ -66,7 +72,7 @@ returns-in_default-told c = λ longest. passes longest _ (goal.at.returns-in_def
 pub returns-then-large : goal.returns-then-large
 returns-then-large c =
     λ longest.
-    let held = c.in-Holds.is in
+    let held = c.in-Some.is in
     let n = number_large _ _ 4 _ _ _ _ c.large.ensures c.if-large.true refl in
     passes longest _ (goal.at.returns-then-large c).In-Rib (held_stops _ _ _ _ _ 6 held n (omega arith))
 
@@ -76,9 +82,9 @@ prefix_refusal-p-requires c = rw (kind_is (goal.at.prefix_refusal-p-requires c).
 pub returns-then-p-gt0 : goal.returns-then-p-gt0
 returns-then-p-gt0 c =
     λ longest.
-    passes longest _ (goal.at.returns-then-p-gt0 c).In-Rib (held_stops _ _ _ _ _ _ c.in-Holds.is (front (goal.at.returns-then-p-gt0 c).After-prefix_refusal-p) c.if-p-gt0.true)
+    passes longest _ (goal.at.returns-then-p-gt0 c).In-Rib (held_stops _ _ _ _ _ _ c.in-Some.is (front (goal.at.returns-then-p-gt0 c).After-prefix_refusal-p) c.if-p-gt0.true)
 
 pub returns : goal.returns
 returns c =
     λ longest.
-    passes longest _ (goal.at.returns c).In-Rib (held_passes _ _ _ _ _ _ c.in-Holds.is (front (goal.at.returns c).After-prefix_refusal-p) _ c.if-p-gt0.false c.entries_refusal.ensures)
+    passes longest _ (goal.at.returns c).In-Rib (held_passes _ _ _ _ _ _ c.in-Some.is (front (goal.at.returns c).After-prefix_refusal-p) _ c.if-p-gt0.false c.entries_refusal.ensures)
