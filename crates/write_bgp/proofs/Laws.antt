@@ -12,7 +12,7 @@ use Rattle.form_spec.specs.Put.{Value, lay, message, large}
 use Rattle.form_spec.specs.Words.{choose}
 use Rattle.form_laws.proofs.Octets.{length-to_be}
 use Rattle.page_spec.specs.Layout.{kind, kind16}
-use Rattle.page_spec.specs.Chosen.{Chosen, Unread, TableDump, PeerTable, Rib, RibGeneric, Change, Message}
+use Rattle.page_spec.specs.Chosen.{Chosen}
 use Rattle.page_spec.specs.contracts.Kind as declared
 use Rattle.page_spec.specs.Sane.{Sane}
 use Rattle.page_laws.proofs.Widths.{sane16, Stamps, stamps16}
@@ -24,7 +24,9 @@ use Rattle.write_spec.specs.declared.Time.TheVariants.{Seconds, Micro}
 use Rattle.write_laws.proofs.Answers.{micros_long}
 use Rattle.write_laws.proofs.Laid.{both}
 use Rattle.write_bgp.specs.Opening.{opening_values, opening_size}
-use Rattle.std.specs.Prelude.{Err}
+use Rattle.std.specs.Prelude.{Ok}
+use Rattle.page_spec.specs.declared.Kind.{Kind}
+use Rattle.page_spec.specs.declared.Kind.TheVariants as kinds
 
 -- ---- the kinds of types 16 and 17
 
@@ -52,15 +54,15 @@ found t s m k e h =
     let d : k ≡ kind16 (micro_size t) s = h ∙ ap (λ (x : ℕ). kind16 x s) e in
     record { page = d ∙ kind_is t s; sane = rw d (sane16 (micro_size t) s (micro_small t)); stamps = rw d (stamps16 (micro_size t) s) }
 
-pub no_width : (k : Chosen) → OneOf (0 ∷ 1 ∷ 2 ∷ 3 ∷ 4 ∷ 5 ∷ []) (tag_of declared.the_type k) → 0 ≡ as_octets k
-no_width (Err why) h = refl
-no_width (Unread micro) h = refl
-no_width (TableDump size) h = refl
-no_width PeerTable h = refl
-no_width (Rib bits) h = refl
-no_width RibGeneric h = refl
-no_width (Change micro w) h = absurd (miss (0 ∷ 1 ∷ 2 ∷ 3 ∷ 4 ∷ 5 ∷ []) 6 tt h)
-no_width (Message micro w) h = absurd (miss (0 ∷ 1 ∷ 2 ∷ 3 ∷ 4 ∷ 5 ∷ []) 7 tt h)
+-- a kind that has no session
+pub no_width : (k : Kind) → OneOf (0 ∷ 1 ∷ 2 ∷ 3 ∷ 4 ∷ []) (tag_of declared.the_type k) → 0 ≡ as_octets (Ok k)
+no_width (kinds.Unread micro) h = refl
+no_width (kinds.TableDump size) h = refl
+no_width kinds.PeerTable h = refl
+no_width (kinds.Rib bits) h = refl
+no_width kinds.RibGeneric h = refl
+no_width (kinds.Change micro w) h = absurd (miss (0 ∷ 1 ∷ 2 ∷ 3 ∷ 4 ∷ []) 5 tt h)
+no_width (kinds.Message micro w) h = absurd (miss (0 ∷ 1 ∷ 2 ∷ 3 ∷ 4 ∷ []) 6 tt h)
 
 -- ---- their octets
 

@@ -225,9 +225,12 @@ fn put_session(
 fn width_of(time: Time, subtype: u64) -> usize
     ensures { (result ≡ as_octets (kind (bgp4mp time) subtype)) × (result ≤ 4) }
 {
-    match kind_16(micro(time), subtype) {
-        Ok(Kind::Change(_, width)) => width,
-        Ok(Kind::Message(_, width)) => width,
+    let Ok(listed) = kind_16(micro(time), subtype) else {
+        return 0;
+    };
+    match listed {
+        Kind::Change(_, width) => width,
+        Kind::Message(_, width) => width,
         _ => 0,
     }
 }

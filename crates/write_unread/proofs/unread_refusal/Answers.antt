@@ -10,8 +10,10 @@ use Rattle.page_spec.specs.Chosen.{Unread}
 use Rattle.octets_laws.proofs.PutRules.{is_large, not_large}
 use Rattle.write_spec.specs.Times.{stamp_of, micro_size}
 use Rattle.write_spec.specs.Only.{unreads, only_type}
-use Rattle.write_laws.proofs.Turns.{unread_tag, not_own}
+use Rattle.write_laws.proofs.Turns.{unread_tag, not_own, no_one}
 use Rattle.write_unread.proofs.Laws.{other_micro, not_unread, is_unread, unread_typed, unread_body, nothing_left}
+use native.Mathlib.Omega.{arith}
+use Rattle.std.specs.Prelude.{Ok}
 use borrow.Enum.Refused.{opened}
 use Rattle.write_unread.proofs.unread_refusal.Goals.{After-large, Else-large, Else-large-2, Else-n-micro}
 use Rattle.write_unread.proofs.unread_refusal.Goals as goal
@@ -34,7 +36,7 @@ type-fits c =
 own : (longest : ℕ) (c : Else-n-micro) → let a = c.args in
     only_type (unreads (micro_size a.time)) longest a.ty a.subtype ≡ layout_for longest (Unread (micro_size a.time))
 own longest c =
-    is_unread longest _ _ _ _ c.kind_of.ensures c.in-Unread.is (c.if-n-micro.false ∙ c.micro.ensures)
+    is_unread longest _ _ _ _ c.kind_of.ensures (c.in-Ok.is ∙ ap Ok c.in-Unread.is) (c.if-n-micro.false ∙ c.micro.ensures)
 
 -- ---- the returns
 pub returns-then-large : goal.returns-then-large
@@ -52,14 +54,22 @@ unfolding fields_refusal
 returns-in_default c =
     λ longest.
     let m : ℕ = micro_size c.args.time in
-    let other = not_own (0 ∷ 2 ∷ 3 ∷ 4 ∷ 5 ∷ 6 ∷ 7 ∷ []) _ 1 c.kind_of.result (unread_tag m) tt (opened c.in_default.in_default-own.keys2) in
-    sym (rw (stamp-fits (goal.at.returns-in_default c).Else-large, type-fits (goal.at.returns-in_default c).Else-large-2, not_unread longest m _ _ c.kind_of.ensures other))
+    let other = no_one (unreads m) c.in_default.field-0 (omega arith) in
+    sym (rw (stamp-fits (goal.at.returns-in_default c).Else-large, type-fits (goal.at.returns-in_default c).Else-large-2, not_unread longest m _ _ (sym c.in_default.is ∙ c.kind_of.ensures) other))
+
+pub returns-in_default-listed : goal.returns-in_default-listed
+unfolding fields_refusal
+returns-in_default-listed c =
+    λ longest.
+    let m : ℕ = micro_size c.args.time in
+    let other = not_own (1 ∷ 2 ∷ 3 ∷ 4 ∷ 5 ∷ 6 ∷ []) (unreads m) 0 _ (unread_tag m) tt (opened c.in_default-listed.in_default-listed-own.keys2) in
+    sym (rw (stamp-fits (goal.at.returns-in_default-listed c).Else-large, type-fits (goal.at.returns-in_default-listed c).Else-large-2, not_unread longest m _ _ (sym c.in-Ok.is ∙ c.kind_of.ensures) other))
 
 pub returns-then-n-micro : goal.returns-then-n-micro
 unfolding fields_refusal
 returns-then-n-micro c =
     λ longest.
-    let other = other_micro _ _ c.kind_of.result c.in-Unread.is (λ e. c.if-n-micro.true (e ∙ sym c.micro.ensures)) in
+    let other = other_micro _ _ c.kind_of.result (c.in-Ok.is ∙ ap Ok c.in-Unread.is) (λ e. c.if-n-micro.true (e ∙ sym c.micro.ensures)) in
     sym (rw (stamp-fits (goal.at.returns-then-n-micro c).Else-large, type-fits (goal.at.returns-then-n-micro c).Else-large-2, not_unread longest _ _ _ c.kind_of.ensures other))
 
 pub returns-then-large-3 : goal.returns-then-large-3
