@@ -1,5 +1,5 @@
 // Numbers that a call is handed, as what they stand for.
-#![tactic(auto)]
+#![tactic(auto, unfolding(form_spec::specs::Words::choose))]
 
 ghost use Rattle.std.specs.Prelude.{◌≡◌};
 ghost use Rattle.dagsumilat_spec.specs.RecordAnswers.{table_by_count};
@@ -12,7 +12,7 @@ use write_spec::Time;
 pub fn table_of(table: u64) -> Table
     ensures { result ≡ table_by_count table }
 {
-    if table == 18446744073709551615 {
+    if table == u64::MAX {
         return Table::Absent;
     }
     Table::Holds(table)
