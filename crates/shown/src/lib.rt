@@ -16,8 +16,8 @@ use std::{fmt, io};
 // What stands in each octet of the room that a program lends, before the call.
 pub const FILL: u8 = 165;
 
-// The longest dump that is listed or reported has 65,536 octets; one more is read, so that a longer one is told from it.
-pub const DUMP: usize = 65537;
+// How many octets of a dump are read: one more than the longest has that is listed or reported, so that a longer one is told from it.
+pub const MOST: usize = 65537;
 
 // The listing of a dump.
 pub fn list<W: Write>(to: &mut W, dump: &[u8]) -> io::Result<()>
@@ -71,11 +71,11 @@ impl fmt::Display for Hex<'_> {
 }
 
 // The octets that a call wrote: up to `most` of them 32 to a line, of more their Adler-32.
-fn octets(rt: &impl Print, octets: &[u8], most: usize) -> io::Result<()> {
-    if most < octets.len() {
-        return println!(rt; "adler32={}", adler32(octets));
+fn octets(rt: &impl Print, written: &[u8], most: usize) -> io::Result<()> {
+    if most < written.len() {
+        return println!(rt; "adler32={}", adler32(written));
     }
-    for line in octets.chunks(32) {
+    for line in written.chunks(32) {
         println!(rt; "{}", Hex(line))?;
     }
     Ok(())

@@ -1,13 +1,13 @@
 // Lists each file that an argument names, after a line with its name.
 #![tactic(auto)]
 
-use shown::DUMP;
+use shown::MOST;
 use std::io;
 use streams::{each_named, read_at_most};
 
 fn main(rt: HostRuntime) -> io::Result<()> {
     each_named(&rt, |mut file| {
-        let dump = read_at_most(rt.alloc(), &mut file, DUMP)?;
+        let dump = read_at_most(rt.alloc(), &mut file, MOST)?;
         shown::list(&mut rt.stdout(), &dump)
     })
 }

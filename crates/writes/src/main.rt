@@ -20,6 +20,7 @@ use write_unread::write_unread;
 // The largest file, and the largest room.
 const MOST: usize = 131072;
 
+// What a file holds.
 #[derive(Drop)]
 struct Case<'a> {
     writer: u8,
