@@ -5,7 +5,7 @@
 use octets::number;
 use report_add::add;
 use report_spec::Added;
-use std::io;
+use std::{array, io};
 use streams::{each_named, read_at_most};
 
 // The largest file.
@@ -13,17 +13,11 @@ const MOST: usize = 131072;
 
 // The report that the first octets hold.
 fn lent(octets: &[u8; 312]) -> [u64; 39] {
-    let mut report = [0u64; 39];
-    for (i, n) in report.iter_mut().enumerate() {
-        *n = number(octets, 8 * i, 8);
-    }
-    report
+    array::from_fn(|i| number(octets, 8 * i, 8))
 }
 
 fn answer(rt: &impl Print, answer: Added) -> io::Result<()> {
-    let fault = answer.fault;
-    let place = answer.place;
-    println!(rt; "answer={fault} {place}")
+    println!(rt; "answer={} {}", answer.fault, answer.place)
 }
 
 // The numbers of a report on one line.

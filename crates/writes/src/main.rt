@@ -9,7 +9,7 @@ use octets::number;
 use record_spec::Table;
 use room_spec::Written;
 use shown::FILL;
-use std::io;
+use std::{array, io};
 use streams::{each_named, read_at_most};
 use write_bgp::{write_change, write_message};
 use write_peers::write_peer_table;
@@ -38,17 +38,13 @@ impl<'a> Case<'a> {
     // None where the octets end before the parts.
     fn read(octets: &'a [u8]) -> Option<Case<'a>> {
         let (head, behind) = octets.split_first_chunk::<97>()?;
-        let mut numbers = [0u64; 10];
-        for (i, n) in numbers.iter_mut().enumerate() {
-            *n = number(head, 5 + 8 * i, 8);
-        }
         let (first, behind) = split(behind, number(head, 85, 4));
         let (second, behind) = split(behind, number(head, 89, 4));
         let (third, _) = split(behind, number(head, 93, 4));
         Some(Case {
             writer: head[0],
             room: number(head, 1, 4) as usize,
-            numbers,
+            numbers: array::from_fn(|i| number(head, 5 + 8 * i, 8)),
             parts: [first, second, third],
         })
     }
