@@ -11,12 +11,11 @@ use walk::walk;
 pub fn first_fault(dump: &[u8], answer: &mut [u64; 4])
     ensures { answer.new ≡ fault_words answer.old (walked longest_message dump.now) }
 {
-    let w = walk(dump);
-    let fault = w.fault;
-    let place = w.place;
-    let start = w.start;
-    answer[0] = fault as u64;
-    answer[1] = place as u64;
-    answer[2] = w.records;
-    answer[3] = start as u64;
+    let walked = walk(dump);
+    *answer = [
+        u64::from(walked.fault),
+        walked.place as u64,
+        walked.records,
+        walked.start as u64,
+    ];
 }

@@ -1,33 +1,18 @@
--- The words laid one by one are the words asked for.
-use mathlib.Core.Path.{◌≡◌, refl, ap, ap₂, ◌∙◌}
-use mathlib.Core.List.{List, [], ◌∷◌}
-use Prim.Native.Nat.{ℕ}
-use Rattle.record_spec.specs.Answer.{fault, place, header_of}
-use Rattle.record_spec.specs.declared.Header.{Header}
-use Rattle.record_spec.specs.Shown.{Shown, Nothing, Good}
-use Rattle.record_spec.specs.declared.Body.TheVariants.{Unread, TableDump, PeerTable, Rib, RibGeneric, Change, Message}
-use Rattle.dagsumilat_spec.specs.Answers.{words, words_from}
-use Rattle.dagsumilat_spec.specs.ReadWords.{kind_of, head_words, body_words, read_words}
-use Rattle.dagsumilat_read.specs.Each.{each}
-use Rattle.std.specs.Prelude.{Err}
+-- The head's words, then the body's, are all that the array holds.
+use Rattle.std.proofs.Common.{◌≡◌, ℕ, ◌≤◌, List, [], ◌++◌, length, drop, ap, ap₂, sym, ◌∙◌, arith}
+use Rattle.std.proofs.lemmas.List.{take_at, drop_at, drop_all, append-nil}
+use Rattle.std.proofs.Common.{length-drop}
+use borrow.Rule.Slice.PartMut.{put_mid, post_of}
+use Rattle.record_spec.specs.Shown.{Shown}
+use Rattle.dagsumilat_spec.specs.ReadWords.{head_words, body_words, read_words}
+use Rattle.dagsumilat_laws.proofs.Words.{all_words}
 
--- the first words, where each is what it ought to be
-pub headed : (a : List ℕ) (x : Shown) (n p k : ℕ) (h : Header) → n ≡ fault x → p ≡ place x → k ≡ kind_of x → h ≡ header_of x
-    → words a (n ∷ p ∷ k ∷ h.timestamp ∷ h.ty ∷ h.subtype ∷ h.length ∷ h.microseconds ∷ []) ≡ words a (head_words x)
-headed a x n p k h e f g i = rw (e, f, g, i)
+joined : (i n : ℕ) (h t b : List ℕ) → length h ≡ i → length t ≤ n → put_mid i n (h ++ t) b ≡ h ++ b
+joined i n h t b e f =
+    let behind : post_of i n (h ++ t) ≡ [] = ap (drop n) (drop_at h t i e) ∙ drop_all n t f in
+    ap₂ (λ p q. p ++ q) (take_at h t i e) (ap (λ z. b ++ z) behind ∙ append-nil b)
 
--- a body has twelve words
-twelve : (x : Shown) → each (body_words x) ≡ body_words x
-twelve Nothing = refl
-twelve (Err why) = refl
-twelve (Good h (Unread c)) = refl
-twelve (Good h (TableDump r)) = refl
-twelve (Good h (PeerTable p)) = refl
-twelve (Good h (Rib r)) = refl
-twelve (Good h (RibGeneric f r)) = refl
-twelve (Good h (Change s w)) = refl
-twelve (Good h (Message s b)) = refl
-
--- the first words, then those of the body, of what was read
-pub told : (a b d w : List ℕ) (x y : Shown) → b ≡ words a (head_words x) → w ≡ body_words x → d ≡ words_from 8 b (each w) → x ≡ y → d ≡ read_words a y
-told a b d w x y e f g h = g ∙ ap₂ (words_from 8) e (ap each f ∙ twelve x) ∙ ap (read_words a) h
+pub told : (a h b : List ℕ) (x y : Shown) → length a ≡ 20 → h ≡ head_words x → b ≡ body_words x → x ≡ y → put_mid 8 12 (h ++ post_of 0 8 a) b ≡ read_words a y
+told a h b x y n e f g =
+    let left : length (post_of 0 8 a) ≤ 12 = omega (arith, length-drop 8 a, n) in
+    joined 8 12 h (post_of 0 8 a) b (ap length e) left ∙ ap₂ (λ p q. p ++ q) e f ∙ sym (all_words a x n) ∙ ap (read_words a) g

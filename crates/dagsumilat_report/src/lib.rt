@@ -11,9 +11,6 @@ use report_add::add;
 pub fn report(dump: &[u8], report: &mut [u64; 39], answer: &mut [u64; 2])
     ensures { (answer.new ≡ report_words answer.old (report_answer longest_message report.old dump.now)) × (report.new ≡ report_leaves longest_message report.old dump.now) }
 {
-    let a = add(dump, report);
-    let fault = a.fault;
-    let place = a.place;
-    answer[0] = fault as u64;
-    answer[1] = place as u64;
+    let added = add(dump, report);
+    *answer = [u64::from(added.fault), added.place as u64];
 }

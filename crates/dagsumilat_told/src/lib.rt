@@ -1,5 +1,5 @@
 // Numbers that a call is handed, as what they stand for.
-#![tactic(auto)]
+#![tactic(auto, unfolding(form_spec::specs::Words::choose))]
 
 ghost use Rattle.std.specs.Prelude.{◌≡◌};
 ghost use Rattle.dagsumilat_spec.specs.RecordAnswers.{table_by_count};
@@ -12,10 +12,10 @@ use write_spec::Time;
 pub fn table_of(table: u64) -> Table
     ensures { result ≡ table_by_count table }
 {
-    if table == 18446744073709551615 {
-        return Table::Absent;
+    if table == u64::MAX {
+        return None;
     }
-    Table::Holds(table)
+    Some(table)
 }
 
 // A record's time; `micro` is 0 where there are no microseconds.

@@ -12,7 +12,7 @@ ghost use Rattle.dagsumilat_spec.specs.RecordAnswers.{table_by_count};
 ghost use Rattle.dagsumilat_spec.specs.WriteWords.{time_by, write_words, Reports};
 
 use dagsumilat_told::{table_of, time_of};
-use room_spec::Written;
+use form_spec::Fault;
 use write_bgp::{write_change, write_message};
 use write_peers::write_peer_table;
 use write_rib::{write_rib, write_rib_generic};
@@ -20,19 +20,13 @@ use write_table_dump::write_table_dump;
 use write_unread::write_unread;
 
 // The fault, and how many octets were written.
-fn put_words(answer: &mut [u64; 2], w: Written)
-    ensures { answer.new ≡ write_words answer.old w }
+fn put_words(answer: &mut [u64; 2], written: Result<usize, Fault>)
+    ensures { answer.new ≡ write_words answer.old written }
 {
-    match w {
-        Written::Octets(n) => {
-            answer[0] = 0;
-            answer[1] = n as u64;
-        }
-        Written::Refused(n, _) => {
-            answer[0] = n as u64;
-            answer[1] = 0;
-        }
-    }
+    *answer = match written {
+        Ok(n) => [0, n as u64],
+        Err(f) => [u64::from(f.number), 0],
+    };
 }
 
 // A record of an unread type.
@@ -49,8 +43,8 @@ pub fn unread(
     ensures { Reports (only_type (unreads (micro_size (time_by timestamp micro microseconds))) longest_message) no_table (unread_given (time_by timestamp micro microseconds) ty subtype contents.now) out.old answer.old answer.new out.new }
 {
     let time = time_of(timestamp, micro, microseconds);
-    let w = write_unread(time, ty, subtype, contents, out);
-    put_words(answer, w);
+    let written = write_unread(time, ty, subtype, contents, out);
+    put_words(answer, written);
 }
 
 // A record of type 12.
@@ -71,11 +65,11 @@ pub fn table_dump(
 )
     ensures { Reports (only_sub table_dumps longest_message) no_table (table_dump_given timestamp subtype view sequence prefix.now bits status originated address.now peer attributes.now) out.old answer.old answer.new out.new }
 {
-    let w = write_table_dump(
+    let written = write_table_dump(
         timestamp, subtype, view, sequence, prefix, bits, status, originated, address, peer,
         attributes, out,
     );
-    put_words(answer, w);
+    put_words(answer, written);
 }
 
 // A peer table.
@@ -90,8 +84,8 @@ pub fn peer_table(
 )
     ensures { Reports (only_sub peer_tables longest_message) no_table (peer_table_given timestamp collector name.now count peers.now) out.old answer.old answer.new out.new }
 {
-    let w = write_peer_table(timestamp, collector, name, count, peers, out);
-    put_words(answer, w);
+    let written = write_peer_table(timestamp, collector, name, count, peers, out);
+    put_words(answer, written);
 }
 
 // A RIB record of one family.
@@ -110,10 +104,10 @@ pub fn rib(
     ensures { Reports (only_sub ribs longest_message) (state_of (table_by_count table)) (rib_given timestamp subtype sequence bits prefix.now count entries.now) out.old answer.old answer.new out.new }
 {
     let told = table_of(table);
-    let w = write_rib(
+    let written = write_rib(
         timestamp, subtype, told, sequence, bits, prefix, count, entries, out,
     );
-    put_words(answer, w);
+    put_words(answer, written);
 }
 
 // A RIB record of subtype 6.
@@ -133,10 +127,10 @@ pub fn rib_generic(
     ensures { Reports (only_sub generic_ribs longest_message) (state_of (table_by_count table)) (rib_generic_given timestamp sequence family safi bits prefix.now count entries.now) out.old answer.old answer.new out.new }
 {
     let in_force = table_of(table);
-    let w = write_rib_generic(
+    let written = write_rib_generic(
         timestamp, in_force, sequence, family, safi, bits, prefix, count, entries, out,
     );
-    put_words(answer, w);
+    put_words(answer, written);
 }
 
 // A state change.
@@ -159,10 +153,10 @@ pub fn change(
     ensures { Reports (only_sub changes longest_message) no_table (change_given (time_by timestamp micro microseconds) subtype peer local interface family theirs.now ours.now old new) out.old answer.old answer.new out.new }
 {
     let time = time_of(timestamp, micro, microseconds);
-    let w = write_change(
+    let written = write_change(
         time, subtype, peer, local, interface, family, theirs, ours, old, new, out,
     );
-    put_words(answer, w);
+    put_words(answer, written);
 }
 
 // A BGP message.
@@ -184,8 +178,8 @@ pub fn message(
     ensures { Reports (only_sub messages longest_message) no_table (message_given (time_by timestamp micro microseconds) subtype peer local interface family theirs.now ours.now message.now) out.old answer.old answer.new out.new }
 {
     let time = time_of(timestamp, micro, microseconds);
-    let w = write_message(
+    let written = write_message(
         time, subtype, peer, local, interface, family, theirs, ours, message, out,
     );
-    put_words(answer, w);
+    put_words(answer, written);
 }

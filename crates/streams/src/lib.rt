@@ -1,8 +1,8 @@
-// What the programs take from std: octets read into a lent buffer, and the file that an argument names.
+// What the programs take from std: octets read up to a bound, and each file that an argument names.
 #![tactic(auto)]
 
 ghost use Rattle.std.specs.Io.KnownBytes.{Consumes, IsAtEnd};
-ghost use Rattle.std.specs.Prelude.{◌<◌, ◌≤◌, IfOk, length, take};
+ghost use Rattle.std.specs.Prelude.{◌<◌, ◌≤◌, IfOk, length, take, vec_len};
 
 use std::alloc::Global;
 use std::env::FillError;
@@ -28,24 +28,27 @@ pub fn read_full<R: Read>(from: &mut R, buf: &mut [u8]) -> io::Result<usize>
     Ok(done)
 }
 
-// How many arguments there are, the program's name among them.
-pub fn arg_count(rt: &impl Env) -> usize {
-    for i in 0..usize::MAX {
-        if let Err(FillError::NotPresent) = rt.arg(i, &mut []) {
-            return i;
-        }
-    }
-    usize::MAX
+// What the input gives, but no more than `most` octets of it.
+pub fn read_at_most<R: Read>(alloc: Global, from: &mut R, most: usize) -> io::Result<Vec<u8>>
+    ensures in_bounds { IfOk result (λ octets. vec_len octets ≤ most) }
+    ensures octets { IfOk result (λ octets. Consumes (R.remaining from.old) (R.remaining from.new) octets.items) }
+    ensures end { IfOk result (λ octets. vec_len octets < most → IsAtEnd (R.remaining from.new)) }
+{
+    let mut octets = vec![in alloc; 0u8; most]?;
+    let n = read_full(from, &mut octets)?;
+    octets.truncate(n);
+    Ok(octets)
 }
 
-// Puts argument i at the start of buf and answers its length, or 0 where it is missing or longer than buf.
-fn arg(rt: &impl Env, i: usize, buf: &mut [u8]) -> usize
-    ensures { result ≤ length buf.new }
-{
-    match rt.arg(i, buf) {
-        Ok(n) => n,
-        Err(_) => 0,
-    }
+// Whether there is an argument i; 0 is the program's name.
+fn has_arg(rt: &impl Env, i: usize) -> bool {
+    !matches!(rt.arg(i, &mut []), Err(FillError::NotPresent))
+}
+
+// Argument i, at the start of buf; none where it is missing or longer than buf.
+fn arg<'a>(rt: &impl Env, i: usize, buf: &'a mut [u8]) -> Option<&'a [u8]> {
+    let n = rt.arg(i, buf).ok()?;
+    Some(&buf[..n])
 }
 
 // Opens the file for reading. Its path has to be text.
@@ -71,17 +74,30 @@ fn fail<W: Write>(alloc: Global, to: &mut W, what: &[u8], e: io::Error) -> io::R
     writeln!(to, ": {}", words(&text))
 }
 
-// The file that argument i names, after a line with its name; where it cannot be opened, standard error says why.
-pub fn named(rt: &HostRuntime, i: usize) -> io::Result<Option<File>> {
-    let mut path = [0u8; 4096];
-    let n = arg(rt, i, &mut path);
-    rt.write_all(&path[..n])?;
+// The file that argument i names, after a line with its name; where it cannot be opened, standard error says why. An argument that is too
+// long for a path names no file, as an empty one.
+fn named(rt: &HostRuntime, i: usize) -> io::Result<Option<File>> {
+    let mut room = [0u8; 4096];
+    let path = arg(rt, i, &mut room).unwrap_or(&[]);
+    rt.write_all(path)?;
     rt.write_all(b"\n")?;
-    match open_read(rt, &path[..n]) {
+    match open_read(rt, path) {
         Ok(file) => Ok(Some(file)),
         Err(e) => {
-            let _ = fail(rt.alloc(), &mut rt.stderr(), &path[..n], e);
+            let _ = fail(rt.alloc(), &mut rt.stderr(), path, e);
             Ok(None)
         }
     }
+}
+
+// Runs `case` on each file that an argument names, after a line with its name; one that cannot be opened is told on standard error and passed over.
+pub fn each_named<F: FnMut(File) -> io::Result<()>>(rt: &HostRuntime, mut case: F) -> io::Result<()>
+    requires { F.IsAlwaysCallable case }
+{
+    for i in (1..usize::MAX).take_while(|i| has_arg(rt, *i)) {
+        if let Some(file) = named(rt, i)? {
+            case(file)?;
+        }
+    }
+    Ok(())
 }

@@ -1,6 +1,0 @@
--- `dagsumilat_write::change` meets its contract.
-use Rattle.dagsumilat_write.proofs.Laws.{tells}
-use Rattle.dagsumilat_write.proofs.change.Goals as goal
-
-pub returns : goal.returns
-returns c = tells _ _ _ _ c.args.answer.now _ _ _ (rw c.time_of-time.ensures at c.write_change-w.ensures) c.put_words.ensures
