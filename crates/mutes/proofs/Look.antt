@@ -3,7 +3,7 @@ use mathlib.Core.Path.{◌≡◌, refl, sym, ap, ◌∙◌}
 use mathlib.Core.Bool.{Bool, true, false}
 use mathlib.Core.Logic.{◌⊎◌, inl, inr, ⊎_elim}
 use mathlib.Core.List.{List}
-use Prim.Native.Nat.{ℕ, zero, suc, ◌/◌, ◌%◌, ◌≤◌, ◌<◌}
+use Prim.Native.Nat.{ℕ, zero, suc, ◌/◌, ◌≤◌, ◌<◌}
 use native.Mathlib.Nat.{eq-or-lt_of_le}
 use native.Mathlib.Omega.{arith}
 use lib.ListN.{get_or}
@@ -65,9 +65,6 @@ pub record Coming (ms slots : List ℕ) (n s bits : ℕ) : Type 0 where
   pub went_on : Passes turns ms slots n
   pub slot_is : slot_after turns slots n ≡ s
   pub bits_are : bits_after turns n ≡ bits
-
-pub look_starts : (ms slots : List ℕ) (n : ℕ) → Coming ms slots n (n % 65536) (n / 65536)
-look_starts ms slots n = record { is_slot = omega arith; turns = 0; went_on = tt; slot_is = refl; bits_are = refl }
 
 abbrev pub look_on : {ms slots : List ℕ} {k n s bits : ℕ} → SlotsHold ms slots k → Coming ms slots n s bits → GoesOn ms slots n s
     → Coming ms slots n (slot_behind (get_or slots s 0) bits) (bits / 2)
