@@ -23,8 +23,8 @@ overflow_sub-result c = let k = counted (goal.at.overflow_sub-result c).After-pe
 pub count-requires : goal.count-requires
 count-requires c = (counted (goal.at.count-requires c).After-peer_count_at-counted).inside
 
-pub returns-then-lost : goal.returns-then-lost
-returns-then-lost c = λ t g. rw c.if-lost.true (peers_there (c.peer_count_at-counted.ensures t g) c.count.ensures.0)
+pub returns-then-not-lost : goal.returns-then-not-lost
+returns-then-not-lost c = λ t g. rw c.if-not-lost.true
 
 pub returns : goal.returns
-returns c = λ t g. rw c.if-lost.false
+returns c = λ t g. rw c.if-not-lost.false (peers_there (c.peer_count_at-counted.ensures t g) c.count.ensures.0)
