@@ -72,22 +72,13 @@ seconds-requires c =
     let e = c.in-16.is in
     timed (goal.at.seconds-requires c).Start false (early _ (λ z. omega arith) (λ z. omega arith) (λ z. omega arith))
 
-pub session_peer-requires : goal.session_peer-requires
-session_peer-requires c = typed (goal.at.session_peer-requires c).Start 16 c.in-16.is
-
 pub micros-requires : goal.micros-requires
 micros-requires c = timed (goal.at.micros-requires c).Start true (late_17 _ c.in-17.is)
-
-pub late_session_peer-requires : goal.late_session_peer-requires
-late_session_peer-requires c = typed (goal.at.late_session_peer-requires c).Start 17 c.in-17.is
 
 pub seconds-requires-in-12 : goal.seconds-requires-in-12
 seconds-requires-in-12 c =
     let e = c.in-12.is in
     timed (goal.at.seconds-requires-in-12 c).Start false (early _ (λ z. omega arith) (λ z. omega arith) (λ z. omega arith))
-
-pub route_peer-requires : goal.route_peer-requires
-route_peer-requires c = typed (goal.at.route_peer-requires c).Start 12 c.in-12.is
 
 pub table_fate-requires : goal.table_fate-requires
 table_fate-requires c =

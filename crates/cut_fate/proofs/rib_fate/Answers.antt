@@ -35,18 +35,6 @@ counted c =
 pub seconds-requires : goal.seconds-requires
 seconds-requires c = let k = c.requires in (k.0, k.1, coarse (goal.at.seconds-requires c).Start)
 
-pub entry_count_at-counted-requires : goal.entry_count_at-counted-requires
-entry_count_at-counted-requires c = c.requires
-
-pub overflow_add-result : goal.overflow_add-result
-overflow_add-result c = let k = counted (goal.at.overflow_add-result c).After-entry_count_at-counted in omega (arith, k.inside)
-
-pub overflow_sub-result : goal.overflow_sub-result
-overflow_sub-result c = let k = counted (goal.at.overflow_sub-result c).After-entry_count_at-counted in omega (arith, k.items)
-
-pub count-requires : goal.count-requires
-count-requires c = (counted (goal.at.count-requires c).After-entry_count_at-counted).inside
-
 pub returns-then-not-contains : goal.returns-then-not-contains
 returns-then-not-contains c = λ t g. rw (within (goal.at.returns-then-not-contains c).After-contains t g ∙ c.if-not-contains.true)
 

@@ -11,18 +11,6 @@ counted : (c : After-peer_count_at-counted) →
 counted c =
     let k = c.requires in c.peer_count_at-counted.ensures k.0 k.1
 
-pub peer_count_at-counted-requires : goal.peer_count_at-counted-requires
-peer_count_at-counted-requires c = c.requires
-
-pub overflow_add-result : goal.overflow_add-result
-overflow_add-result c = let k = counted (goal.at.overflow_add-result c).After-peer_count_at-counted in omega (arith, k.inside)
-
-pub overflow_sub-result : goal.overflow_sub-result
-overflow_sub-result c = let k = counted (goal.at.overflow_sub-result c).After-peer_count_at-counted in omega (arith, k.items)
-
-pub count-requires : goal.count-requires
-count-requires c = (counted (goal.at.count-requires c).After-peer_count_at-counted).inside
-
 pub returns-then-not-lost : goal.returns-then-not-lost
 returns-then-not-lost c = λ t g. rw c.if-not-lost.true
 
