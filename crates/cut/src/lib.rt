@@ -35,17 +35,17 @@ pub struct InForce {
 fn table_behind(
     d: &[u8],
     at: usize,
-    table: bool,
+    peer_table: bool,
     before: Option<InForce>,
     mutes: &Mutes,
     new_indexes: &mut NewIndexes,
     longest: u64,
 ) -> Option<InForce>
     requires stands { Stands longest mutes.now new_indexes.old d.now at before }
-    requires table_value { table ≡ is_table (sort_of (shown_at longest d.now before at)) }
+    requires table_value { peer_table ≡ is_table (sort_of (shown_at longest d.now before at)) }
     ensures { (state_told d.now result ≡ next (layout longest) (rec_at longest d.now before at) (state_told d.now before)) × InStep mutes.now new_indexes.new d.now result }
 {
-    if !table {
+    if !peer_table {
         return before;
     }
     let counted = peer_count_at(d, at);
@@ -62,7 +62,7 @@ fn table_behind(
 // What is left of d, laid or only counted; answers how many octets it has.
 fn leave(
     d: &[u8],
-    w: Window,
+    window: Window,
     mutes: &Mutes,
     new_indexes: &mut NewIndexes,
     out: &mut [u8],
@@ -70,8 +70,8 @@ fn leave(
     longest: u64,
 ) -> usize
     requires splits { Splits (layout longest) d.now }
-    requires d_in_bounds { lays ≡ true → length (left_of longest w.start w.end mutes.now d.now) ≤ length out.old }
-    ensures { (result ≡ length (left_of longest w.start w.end mutes.now d.now)) × (out.new ≡ laid lays out.old 0 (left_of longest w.start w.end mutes.now d.now)) }
+    requires d_in_bounds { lays ≡ true → length (left_of longest window.start window.end mutes.now d.now) ≤ length out.old }
+    ensures { (result ≡ length (left_of longest window.start window.end mutes.now d.now)) × (out.new ≡ laid lays out.old 0 (left_of longest window.start window.end mutes.now d.now)) }
 {
     let mut at = 0;
     let mut far = Far { run: 0, put: 0 };
@@ -79,12 +79,12 @@ fn leave(
     while at < d.len() {
         let ty = type_of(d, at);
         let subtype = subtype_of(d, at);
-        let table = is_peer_table(ty, subtype);
-        in_force = table_behind(d, at, table, in_force, mutes, new_indexes, longest);
+        let peer_table = is_peer_table(ty, subtype);
+        in_force = table_behind(d, at, peer_table, in_force, mutes, new_indexes, longest);
         let lost = in_force.is_some_and(|table| table.lost);
         let peers = in_force.map_or(0, |table| table.count);
         let next = end_at(d, at);
-        let fate = fate_of(d, at, ty, subtype, w, mutes, lost);
+        let fate = fate_of(d, at, ty, subtype, window, mutes, lost);
         far = far.pass(d, at, next, fate, peers, new_indexes, out, lays);
         at = next;
     }
@@ -94,31 +94,31 @@ fn leave(
 // Whether what is left of a dump goes into out. It is never longer than the dump, and is measured only for a shorter buffer.
 fn fits(
     dump: &[u8],
-    w: Window,
+    window: Window,
     mutes: &Mutes,
     new_indexes: &mut NewIndexes,
     out: &mut [u8],
     longest: u64,
 ) -> bool
     requires { Splits (layout longest) dump.now }
-    ensures { (result ≡ leb (length (left_of longest w.start w.end mutes.now dump.now)) (length out.old)) × (out.new ≡ out.old) }
+    ensures { (result ≡ leb (length (left_of longest window.start window.end mutes.now dump.now)) (length out.old)) × (out.new ≡ out.old) }
 {
     if out.len() < dump.len() {
-        return leave(dump, w, mutes, new_indexes, out, false, longest) <= out.len();
+        return leave(dump, window, mutes, new_indexes, out, false, longest) <= out.len();
     }
     true
 }
 
 // The cut of a dump that is good.
-fn left_of(dump: &[u8], w: Window, mutes: &[u32], out: &mut [u8], longest: u64) -> Written
+fn left_of(dump: &[u8], window: Window, mutes: &[u32], out: &mut [u8], longest: u64) -> Written
     requires { Splits (layout longest) dump.now }
-    ensures { (result ≡ written 0 0 (left_of longest w.start w.end mutes.now dump.now) out.old) × (out.new ≡ holds 0 (left_of longest w.start w.end mutes.now dump.now) out.old) }
+    ensures { (result ≡ written 0 0 (left_of longest window.start window.end mutes.now dump.now) out.old) × (out.new ≡ holds 0 (left_of longest window.start window.end mutes.now dump.now) out.old) }
 {
     let mut slots = [0u16; 196608];
     let mutes = Mutes::of(mutes, &mut slots);
     let mut new_indexes = [0u16; 65536];
-    if fits(dump, w, &mutes, &mut new_indexes, out, longest) {
-        return Written::Octets(leave(dump, w, &mutes, &mut new_indexes, out, true, longest));
+    if fits(dump, window, &mutes, &mut new_indexes, out, longest) {
+        return Written::Octets(leave(dump, window, &mutes, &mut new_indexes, out, true, longest));
     }
     Written::Refused(15, 0)
 }

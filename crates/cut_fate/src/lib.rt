@@ -32,10 +32,10 @@ impl Window {
 }
 
 // A record that its time alone decides.
-fn timed(time: u64, w: Window) -> Fate
-    ensures { result ≡ cond (leb w.start time && ltb time w.end) fated.Stays fated.Goes }
+fn timed(time: u64, window: Window) -> Fate
+    ensures { result ≡ cond (leb window.start time && ltb time window.end) fated.Stays fated.Goes }
 {
-    if w.contains(time) {
+    if window.contains(time) {
         Fate::Stays
     } else {
         Fate::Goes
@@ -43,10 +43,10 @@ fn timed(time: u64, w: Window) -> Fate
 }
 
 // A record that its time and its peer AS decide.
-fn heard(time: u64, peer: u64, w: Window, mutes: &Mutes) -> Fate
-    ensures { result ≡ cond ((leb w.start time && ltb time w.end) && not (mem peer mutes.now)) fated.Stays fated.Goes }
+fn heard(time: u64, peer: u64, window: Window, mutes: &Mutes) -> Fate
+    ensures { result ≡ cond ((leb window.start time && ltb time window.end) && not (mem peer mutes.now)) fated.Stays fated.Goes }
 {
-    if w.contains(time) && !mutes.listed(peer) {
+    if window.contains(time) && !mutes.listed(peer) {
         Fate::Stays
     } else {
         Fate::Goes
@@ -66,11 +66,11 @@ fn table_fate(d: &[u8], at: usize, lost: bool) -> Fate
 }
 
 // A RIB record.
-fn rib_fate(d: &[u8], at: usize, subtype: u64, w: Window, lost: bool) -> Fate
+fn rib_fate(d: &[u8], at: usize, subtype: u64, window: Window, lost: bool) -> Fate
     requires { Is d.now at (λ x. (sort_of x ≡ sort.rib) × (subtype_of x ≡ subtype)) }
-    ensures { Shows d.now at (λ x. result ≡ cond (leb w.start (time_of x) && ltb (time_of x) w.end) (cond lost (fated.Entries (items_at x) (count_of x)) fated.Stays) fated.Goes) }
+    ensures { Shows d.now at (λ x. result ≡ cond (leb window.start (time_of x) && ltb (time_of x) window.end) (cond lost (fated.Entries (items_at x) (count_of x)) fated.Stays) fated.Goes) }
 {
-    if !w.contains(seconds(d, at)) {
+    if !window.contains(seconds(d, at)) {
         return Fate::Goes;
     }
     if !lost {
@@ -86,20 +86,25 @@ pub fn fate_of(
     at: usize,
     ty: u64,
     subtype: u64,
-    w: Window,
+    window: Window,
     mutes: &Mutes,
     lost: bool,
 ) -> Fate
     requires { Is d.now at (λ x. (type_of x ≡ ty) × (subtype_of x ≡ subtype)) }
-    ensures { Shows d.now at (λ x. result ≡ fate_of w.start w.end mutes.now lost x) }
+    ensures { Shows d.now at (λ x. result ≡ fate_of window.start window.end mutes.now lost x) }
 {
     match ty {
-        16 => heard(seconds(d, at), session_peer(d, at, subtype), w, mutes),
-        17 => heard(micros(d, at), late_session_peer(d, at, subtype), w, mutes),
-        12 => heard(seconds(d, at), route_peer(d, at, subtype), w, mutes),
+        16 => heard(seconds(d, at), session_peer(d, at, subtype), window, mutes),
+        17 => heard(
+            micros(d, at),
+            late_session_peer(d, at, subtype),
+            window,
+            mutes,
+        ),
+        12 => heard(seconds(d, at), route_peer(d, at, subtype), window, mutes),
         13 if subtype == 1 => table_fate(d, at, lost),
-        13 => rib_fate(d, at, subtype, w, lost),
-        33 | 49 => timed(micros(d, at), w),
-        _ => timed(seconds(d, at), w),
+        13 => rib_fate(d, at, subtype, window, lost),
+        33 | 49 => timed(micros(d, at), window),
+        _ => timed(seconds(d, at), window),
     }
 }

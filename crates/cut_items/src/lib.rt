@@ -26,11 +26,13 @@ pub type NewIndexes = [u16; 65536];
 const GOES: u16 = 65535;
 
 // How many items stay, and where what was laid of them ends.
-#[derive(Drop)]
+#[derive(Clone, Copy)]
 pub struct Laid {
     pub kept: u64,
     pub end: usize,
 }
+
+// One function for both kinds of items would be handed a format and how an item's size and new index are read: longer than the two.
 
 // ---- entries
 

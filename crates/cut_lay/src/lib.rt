@@ -1,4 +1,5 @@
 // What is left of a record, laid in a lent buffer or only counted. d is a dump whose records are good.
+// `lays` is a flag: as a trait of buffers, or `None` for one, it would bring more than the four tests of it that it spares.
 #![tactic(auto)]
 
 ghost use Rattle.std.specs.Prelude.{◌≡◌, ◌||◌, ◌+◌, ◌-◌, ◌≤◌, ◌<◌, ltb, eqb, length, drop};
@@ -13,7 +14,8 @@ use cut_items::{NewIndexes, lay_entries, lay_peers};
 use cut_spec::Fate;
 use octets::put_number;
 
-// How far the cut has come: records from `run` on stay, and are to be laid at `put`.
+// How far the cut has come: records from `run` on stay, and are to be laid at `put`. That `put` is not past `run` is asked and no
+// invariant: only the cut's loop knows that what is left of a record is never longer.
 #[derive(Clone, Copy)]
 pub struct Far {
     pub run: usize,

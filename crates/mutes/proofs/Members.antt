@@ -1,6 +1,6 @@
 -- Who is on a list, told from parts of it.
-use mathlib.Core.Path.{◌≡◌, refl, sym, ap, ◌∙◌}
-use mathlib.Core.Bool.{Bool, true, false, ◌||◌, or-true, or-false}
+use mathlib.Core.Path.{◌≡◌, sym, ap, ◌∙◌}
+use mathlib.Core.Bool.{Bool, true, ◌||◌, or-true, or-false}
 use mathlib.Core.Logic.{◌⊎◌, inl, inr}
 use mathlib.Core.List.{List, [], ◌∷◌}
 use Prim.Native.Nat.{ℕ, ◌+◌, ◌<◌}
@@ -9,12 +9,9 @@ use lib.ListN.{length, take, drop, get_or, take-append-drop}
 use lib.Seq.{take-suc, drop-cons}
 use lib.Dec.{eqb}
 use borrow.Author.Tests.{eq-eqb, eqb-true}
+use Rattle.std.proofs.lemmas.Bool.{or_cases}
 use Rattle.cut_spec.specs.Cut.{mem}
 use Rattle.cut_laws.proofs.Cut.{mem-append}
-
-or_parts : (a b : Bool) → (a || b) ≡ true → (a ≡ true) ⊎ (b ≡ true)
-or_parts true b e = inl refl
-or_parts false b e = inr e
 
 -- ---- the numbers before a place, and from it on
 
@@ -34,7 +31,7 @@ mem-suc n k ms h =
     rw (add-one, take-suc ms k 0 h) (mem-append n (take k ms) (get_or ms k 0 ∷ []) ∙ ap (λ (b : Bool). mem n (take k ms) || b) (or-false (eqb n (get_or ms k 0))))
 
 pub mem-next : (n k : ℕ) (ms : List ℕ) → k < length ms → mem n (take (k + 1) ms) ≡ true → (mem n (take k ms) ≡ true) ⊎ (n ≡ get_or ms k 0)
-mem-next n k ms h e = go (or_parts (mem n (take k ms)) (eqb n (get_or ms k 0)) (sym (mem-suc n k ms h) ∙ e))
+mem-next n k ms h e = go (or_cases (mem n (take k ms)) (eqb n (get_or ms k 0)) (sym (mem-suc n k ms h) ∙ e))
   where
     go : (mem n (take k ms) ≡ true) ⊎ (eqb n (get_or ms k 0) ≡ true) → (mem n (take k ms) ≡ true) ⊎ (n ≡ get_or ms k 0)
     go (inl a) = inl a

@@ -3,7 +3,7 @@
 
 ghost use Rattle.std.specs.Prelude.{◌≡◌, ◌+◌, min, ◌<◌, length};
 ghost use Rattle.cut_spec.specs.Cut.{mem};
-ghost use Rattle.mutes_spec.specs.Slots.{SlotsHold, Filled, empty_slots};
+ghost use Rattle.mutes_spec.specs.Slots.{SlotsHold, empty_slots};
 ghost use Rattle.mutes.specs.LookEnds.{SlotsHoldSome, LookEnds};
 
 use mutes_spec::Slots;
@@ -86,7 +86,7 @@ fn look_for(number: u64, list: &[u32], slots: &Slots) -> usize
             return slot;
         }
         slot = 65536 + 2 * place + (bits % 2) as usize;
-        bits = bits / 2;
+        bits /= 2;
     }
     slot
 }

@@ -17,5 +17,5 @@ returns-then-out-dump c =
 pub returns : goal.returns
 returns c =
     let a = c.args in
-    let h : length (left_of a.longest a.w.start a.w.end a.mutes.now a.dump.now) ≤ length a.out.now = omega (arith, cut_less (layout a.longest) (cutting a.w.start a.w.end a.mutes.now) a.dump.now c.requires, c.if-out-dump.false) in
+    let h : length (left_of a.longest a.window.start a.window.end a.mutes.now a.dump.now) ≤ length a.out.now = omega (arith, cut_less (layout a.longest) (cutting a.window.start a.window.end a.mutes.now) a.dump.now c.requires, c.if-out-dump.false) in
     (sym (le-leb _ _ h), refl)

@@ -22,7 +22,7 @@ good c = turn_good c.loop-at.invariant (octets c) c.loop-at-test.true
 pub loop-at-init : goal.loop-at-init
 loop-at-init c =
     let a = c.args in
-    turn_starts a.longest a.w.start a.w.end a.mutes.now a.d.now a.lays a.new_indexes.now a.out.now c.requires.splits
+    turn_starts a.longest a.window.start a.window.end a.mutes.now a.d.now a.lays a.new_indexes.now a.out.now c.requires.splits
 
 pub type_of-ty-requires : goal.type_of-ty-requires
 type_of-ty-requires c = (_, good (goal.at.type_of-ty-requires c).In-loop-at)
@@ -37,7 +37,7 @@ table_behind-in_force-requires-clause-stands c =
 pub table_behind-in_force-requires-clause-table_value : goal.table_behind-in_force-requires-clause-table_value
 table_behind-in_force-requires-clause-table_value c =
     let g = good (goal.at.table_behind-in_force-requires-clause-table_value c).In-loop-at in
-    c.is_peer_table-table.ensures ∙ ap is_table (ap₂ sort_by (c.type_of-ty.ensures _ g) (c.subtype_of-subtype.ensures _ g) ∙ sym (sorted _ _ _ g))
+    c.is_peer_table-peer_table.ensures ∙ ap is_table (ap₂ sort_by (c.type_of-ty.ensures _ g) (c.subtype_of-subtype.ensures _ g) ∙ sym (sorted _ _ _ g))
 
 pub end_at-next-requires : goal.end_at-next-requires
 end_at-next-requires c = (_, good (goal.at.end_at-next-requires c).In-loop-at)
@@ -49,7 +49,7 @@ fate_of-fate-requires c =
 -- what becomes of it
 is : (c : After-fate_of-fate) → let a = c.args in
     let l = c.loop-at in
-    Is a.longest a.w.start a.w.end a.mutes.now a.d.now l.at l.in_force c.table_behind-in_force.new.new_indexes c.table_behind-in_force.result c.end_at-next.result c.fate_of-fate.result
+    Is a.longest a.window.start a.window.end a.mutes.now a.d.now l.at l.in_force c.table_behind-in_force.new.new_indexes c.table_behind-in_force.result c.end_at-next.result c.fate_of-fate.result
 is c =
     let lost : c.is_some_and-lost.result ≡ loses c.table_behind-in_force.result = search rules in
     let a = c.args in
@@ -57,7 +57,7 @@ is c =
     let oc = octets_of_lem _ (λ k. omega (arith, c.type_inv.d k)) in
     let g = turn_good i oc c.loop-at-test.true in
     let t = c.table_behind-in_force.ensures in
-    fate_is oc (turn_stands i oc c.loop-at-test.true) a.w.start a.w.end (c.end_at-next.ensures _ g).is t.0 t.1 lost _ (c.fate_of-fate.ensures _ g)
+    fate_is oc (turn_stands i oc c.loop-at-test.true) a.window.start a.window.end (c.end_at-next.ensures _ g).is t.0 t.1 lost _ (c.fate_of-fate.ensures _ g)
 
 peers : (c : After-map_or-peers) → c.map_or-peers.result ≡ peers_of c.table_behind-in_force.result
 peers c = search rules

@@ -44,23 +44,23 @@ Reads c field n =
 -- l becomes of the record
 abbrev Becomes : (c : Start) → Fate → Type 0
 Becomes c l =
-    let a = c.args in Shows a.d.now a.at (λ x. l ≡ fate_of a.w.start a.w.end a.mutes.now a.lost x)
+    let a = c.args in Shows a.d.now a.at (λ x. l ≡ fate_of a.window.start a.window.end a.mutes.now a.lost x)
 
 -- of one that its time and its peer decide
 by_peer : (c : Start) (time peer : ℕ) (l : Fate) → let a = c.args in
     (a.ty ≡ 12) ⊎ ((a.ty ≡ 16) ⊎ (a.ty ≡ 17)) → Reads c time_of time → Reads c peer_of peer
-    → l ≡ cond ((leb a.w.start time && ltb time a.w.end) && not (mem peer a.mutes.now)) Stays Goes
+    → l ≡ cond ((leb a.window.start time && ltb time a.window.end) && not (mem peer a.mutes.now)) Stays Goes
     → Becomes c l
 by_peer c time peer l y e p h t g =
     let a = c.args in
-    fate_heard a.w.start a.w.end a.mutes.now a.lost (shown t a.d.now a.at) (sorts c t g ∙ sort_peer _ _ y) (e t g) (p t g) h
+    fate_heard a.window.start a.window.end a.mutes.now a.lost (shown t a.d.now a.at) (sorts c t g ∙ sort_peer _ _ y) (e t g) (p t g) h
 
 -- of one that its time alone decides
 by_time : (c : Start) (time : ℕ) (l : Fate) → let a = c.args in
-    sort_by a.ty a.subtype ≡ unread → Reads c time_of time → l ≡ cond (leb a.w.start time && ltb time a.w.end) Stays Goes → Becomes c l
+    sort_by a.ty a.subtype ≡ unread → Reads c time_of time → l ≡ cond (leb a.window.start time && ltb time a.window.end) Stays Goes → Becomes c l
 by_time c time l s e h t g =
     let a = c.args in
-    fate_unread a.w.start a.w.end a.mutes.now a.lost (shown t a.d.now a.at) (sorts c t g ∙ s) (e t g) h
+    fate_unread a.window.start a.window.end a.mutes.now a.lost (shown t a.d.now a.at) (sorts c t g ∙ s) (e t g) h
 
 -- types 33 and 49 are no others
 far : {y n : ℕ} → (y ≡ 33) ⊎ (y ≡ 49) → n < 33 → y ≡ n → ⊥
@@ -88,7 +88,7 @@ table_fate-requires c =
 pub returns-in-13 : goal.returns-in-13
 returns-in-13 c =
     let a = c.args in
-    λ t g. fate_table a.w.start a.w.end a.mutes.now a.lost (shown t a.d.now a.at)
+    λ t g. fate_table a.window.start a.window.end a.mutes.now a.lost (shown t a.d.now a.at)
     (sorts (goal.at.returns-in-13 c).Start t g ∙ sort_first _ _ c.in-13.is c.if-subtype-eq1.true) (c.table_fate.ensures t g)
 
 pub rib_fate-requires : goal.rib_fate-requires
@@ -116,7 +116,7 @@ returns-in-12 c = by_peer (goal.at.returns-in-12 c).Start _ _ _ (inl c.in-12.is)
 pub returns-in-13-2 : goal.returns-in-13-2
 returns-in-13-2 c =
     let a = c.args in
-    λ t g. fate_rib a.w.start a.w.end a.mutes.now a.lost (shown t a.d.now a.at)
+    λ t g. fate_rib a.window.start a.window.end a.mutes.now a.lost (shown t a.d.now a.at)
     (sorts (goal.at.returns-in-13-2 c).Start t g ∙ sort_other _ _ c.in-13.is c.if-subtype-eq1.false) (c.rib_fate.ensures t g)
 
 pub returns-in-33 : goal.returns-in-33
