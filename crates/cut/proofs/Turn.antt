@@ -26,7 +26,7 @@ use Rattle.cut_spec.specs.Laid.{laid, Room, between, Passed}
 use Rattle.cut_spec.specs.Answer.{left_of}
 use Rattle.cut_laws.proofs.Shows.{shows_good}
 use Rattle.cut_laws.proofs.Loop.{front}
-use Rattle.cut_laws.proofs.Leaving.{Leaving, leave_starts, leave_last, leave_done, leave_room, leave_turn}
+use Rattle.cut_laws.proofs.Leaving.{Leaving, leave_starts, leave_done, leave_room, leave_turn}
 use Rattle.look_spec.specs.Field as field
 use Rattle.look_spec.specs.Field.{Told}
 use Rattle.cut.specs.State.{state_told, table_told, peers_of, shown_at, rec_at}
@@ -83,9 +83,6 @@ module _ {longest from to : ℕ} {ms d : List ℕ} {lays : Bool} {new_indexes ou
   turn_good oc more = let h = turn_stands oc more in (h.before, h.good)
 
   module _ (fits : lays ≡ true → length (left_of longest from to ms d) ≤ length out₀) where
-    pub turn_last : Room lays out s.put (at - s.run)
-    turn_last = leave_last (layout longest) (cutting from to ms) i.leaves fits
-
     pub turn_done : length d ≤ at → {out' : List ℕ} {r : ℕ} → r ≡ s.put + (at - s.run) → out' ≡ laid lays out s.put (between d s.run at)
         → (r ≡ length (left_of longest from to ms d)) × (out' ≡ laid lays out₀ 0 (left_of longest from to ms d))
     turn_done h p q = leave_done (layout longest) (cutting from to ms) i.leaves fits h p q
