@@ -60,6 +60,7 @@ fn table_behind(
 }
 
 // What is left of d, laid or only counted; answers how many octets it has.
+// `longest` and `peers` serve only clauses, and are no ghost values: those have to be told from what a call is handed.
 fn leave(
     d: &[u8],
     window: Window,

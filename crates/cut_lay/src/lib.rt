@@ -14,8 +14,8 @@ use cut_items::{NewIndexes, lay_entries, lay_peers};
 use cut_spec::Fate;
 use octets::put_number;
 
-// How far the cut has come: records from `run` on stay, and are to be laid at `put`. That `put` is not past `run` is asked and no
-// invariant: only the cut's loop knows that what is left of a record is never longer.
+// How far the cut has come: records from `run` on stay, and are to be laid at `put`.
+// That `put` is not past `run` is asked and no invariant: only the cut's loop knows that what is left of a record is never longer.
 #[derive(Clone, Copy)]
 pub struct Far {
     pub run: usize,
