@@ -6,6 +6,7 @@ use Prim.Native.Nat.{ℕ, ◌+◌, ◌-◌, ◌≤◌, ◌<◌}
 use native.Mathlib.Omega.{arith}
 use lib.Dec.{leb, ltb}
 use lib.ListN.{length, take, drop}
+use Rattle.std.proofs.Common.{Option, Some, None}
 use Rattle.form_spec.specs.Octets.{Octets}
 use Rattle.form_spec.specs.Shape.{St, with_peers, as_of}
 use Rattle.form_spec.specs.Record.{next}
@@ -41,7 +42,7 @@ use Rattle.cut_laws.proofs.Whole as whole
 use Rattle.cut_laws.proofs.Tables.{peers_in, TableLeft, table-left}
 use Rattle.cut_laws.proofs.Ribs.{RibLeft, rib-left, generic_left, tells_peers, tells_none}
 use Rattle.cut_laws.proofs.Stays.{table_whole, rib_whole}
-use Rattle.cut.specs.State.{state_told, tell_of, table_told, shown_at, rec_at}
+use Rattle.cut.specs.State.{state_told, table_told, peers_of, loses, shown_at, rec_at}
 use Rattle.cut_spec.specs.Fate.{fate_of}
 use Rattle.cut_spec.specs.Left.{octets_of, Sound}
 use Rattle.cut.specs.Stands.{InStep, Stands}
@@ -51,19 +52,25 @@ use Rattle.cut_spec.specs.declared.Fate.TheVariants.{Stays, Goes, Peers, Entries
 use Rattle.form_spec.specs.Refusal.{refused}
 use Rattle.std.specs.Prelude.{Err}
 
--- the count that f tells is that of the table in force
-count_is : (seen : Bool) (n : ℕ) (st : St) → Tells (tell_of seen n) st → st ≡ with_peers (numbers st) → n ≡ length (numbers st)
-count_is false n st h e = absurd (tells_none st h e)
-count_is true n st h e = (tells_peers n st h).1
+-- the count that g tells is that of the table in force
+count_is : (g : Option InForce) (st : St) → Tells (table_told g) st → st ≡ with_peers (numbers st) → peers_of g ≡ length (numbers st)
+count_is None st h e = absurd (tells_none st h e)
+count_is (Some g) st h e = (tells_peers g.count st h).1
 
 -- a table that is told, by its peers
 pub state_at_is : (d : List ℕ) (from count : ℕ) → state_at peer d true from count ≡ with_peers (map (as_of peer) (items peer count (drop from d)))
 unfolding state_at
 state_at_is d from count = refl
 
+-- what becomes of a record is what is left of it: it stands at `at`, where f is in force, and ends at `end`, behind which g is, with the
+-- new indexes `fresh`
+abbrev pub Is : (longest from to : ℕ) (ms d : List ℕ) (at : ℕ) (f : Option InForce) (fresh : List ℕ) (g : Option InForce) (end : ℕ) → Fate → Type 0
+Is longest from to ms d at f fresh g end l =
+    (octets_of fresh d at end (peers_of g) l ≡ writes (cut_one (layout longest) (cutting from to ms) (state_told d f) (rec_at longest d f at))) × Sound d at (peers_of g) l
+
 -- ---- a good record stands at `at`
 
-module _ {longest : ℕ} {ms new_indexes d : List ℕ} (oc : Octets d) {at : ℕ} {f : InForce} (c : Stands longest ms new_indexes d at f) where
+module _ {longest : ℕ} {ms new_indexes d : List ℕ} (oc : Octets d) {at : ℕ} {f : Option InForce} (c : Stands longest ms new_indexes d at f) where
   abbrev x : Shown
   x = shown_at longest d f at
 
@@ -156,20 +163,20 @@ module _ {longest : ℕ} {ms new_indexes d : List ℕ} (oc : Octets d) {at : ℕ
 
   -- ---- what becomes of it: it ends at `end`, and behind it g is in force, with the new indexes `fresh`
 
-  module _ (from to : ℕ) {fresh : List ℕ} {g : InForce} {end : ℕ} (ends : end ≡ at + place (shown_at longest d f at)) (behind : state_told d g ≡ next (layout longest) (rec_at longest d f at) (state_told d f)) (step : InStep ms fresh d g) where
-    abbrev pub Is : Fate → Type 0
-    Is l = (octets_of fresh d at end g.count l ≡ writes (cut_one (layout longest) (cutting from to ms) (state_told d f) (rec_at longest d f at))) × Sound d at g.count l
+  module _ (from to : ℕ) {fresh : List ℕ} {g : Option InForce} {end : ℕ} (ends : end ≡ at + place (shown_at longest d f at)) (behind : state_told d g ≡ next (layout longest) (rec_at longest d f at) (state_told d f)) (step : InStep ms fresh d g) where
+    abbrev Here : Fate → Type 0
+    Here = Is longest from to ms d at f fresh g end
 
     -- it stays as it is
-    by_stays : (y : Shown) → x ≡ y → writes (cut_one (layout longest) (cutting from to ms) st (rec_at longest d f at)) ≡ take (place y) (drop at d) → Is Stays
+    by_stays : (y : Shown) → x ≡ y → writes (cut_one (layout longest) (cutting from to ms) st (rec_at longest d f at)) ≡ take (place y) (drop at d) → Here Stays
     by_stays y e w = let m : end - at ≡ place x = omega (arith, ends) in let n : end - at ≡ place y = rw e at m in (rw n (sym w), tt)
 
-    by_whole : (y : Shown) (b : Bool) → x ≡ y → whole.Whole longest from to ms d at st y b → Is (cond b Stays Goes)
+    by_whole : (y : Shown) (b : Bool) → x ≡ y → whole.Whole longest from to ms d at st y b → Here (cond b Stays Goes)
     by_whole y true e w = by_stays y e w.left
     by_whole y false e w = (sym w.left, tt)
 
-    by_peers : (h : Header) (p : table.Peers) → x ≡ Good h (PeerTable p) → Is (cond g.lost (Peers p.peers.at p.count) Stays)
-    by_peers h p e = go g.lost refl
+    by_peers : (h : Header) (p : table.Peers) → x ≡ Good h (PeerTable p) → Here (cond (loses g) (Peers p.peers.at p.count) Stays)
+    by_peers h p e = go (loses g) refl
       where
         w : TableLeft longest from to ms d at st h p
         w = table_here from to h p e
@@ -180,15 +187,15 @@ module _ {longest : ℕ} {ms new_indexes d : List ℕ} (oc : Octets d) {at : ℕ
         kept_is : sieved fresh 0 (peers_in d at p) ≡ kept (λ it. mem (as_of peer it) ms) (peers_in d at p)
         kept_is = sieved-kept (λ n. mem n ms) (as_of peer) fresh (peers_in d at p) (subst (Ranked (λ n. mem n ms) fresh) is step.ranked)
 
-        go : (b : Bool) → g.lost ≡ b → Is (cond b (Peers p.peers.at p.count) Stays)
+        go : (b : Bool) → (loses g) ≡ b → Here (cond b (Peers p.peers.at p.count) Stays)
         go true z = (
           ap (items_left d at (p.peers.at - 14)) kept_is ∙ sym w.left,
           (omega (arith, w.held.starts), omega (arith, w.held.all, w.shown.inside, w.shown.ends), w.held.few, w.held.lie),
         )
         go false z = by_stays (Good h (PeerTable p)) e (table_whole w (subst (λ (s : St). length (kept (λ n. mem n ms) (numbers s)) ≡ length (numbers s)) is (step.none z)))
 
-    by_rib : (y : Shown) (h : Header) (r : Routes) → x ≡ y → AsRib from to y h r → Is (cond (in_window from to h) (cond g.lost (Entries r.entries.at r.count) Stays) Goes)
-    by_rib y h r e as_rib = go (in_window from to h) refl g.lost refl
+    by_rib : (y : Shown) (h : Header) (r : Routes) → x ≡ y → AsRib from to y h r → Here (cond (in_window from to h) (cond (loses g) (Entries r.entries.at r.count) Stays) Goes)
+    by_rib y h r e as_rib = go (in_window from to h) refl (loses g) refl
       where
         -- no table is in force but the one before
         is : state_told d g ≡ st
@@ -197,10 +204,10 @@ module _ {longest : ℕ} {ms new_indexes d : List ℕ} (oc : Octets d) {at : ℕ
         w : RibLeft longest from to ms fresh d at st y h r
         w = as_rib fresh (subst (Ranked (λ n. mem n ms) fresh) is step.ranked)
 
-        many : g.count ≡ length (numbers st)
-        many = count_is g.seen g.count st (subst (Tells (table_told g)) is step.tells) w.table
+        many : peers_of g ≡ length (numbers st)
+        many = count_is g st (subst (Tells (table_told g)) is step.tells) w.table
 
-        go : (b : Bool) → in_window from to h ≡ b → (l : Bool) → g.lost ≡ l → Is (cond b (cond l (Entries r.entries.at r.count) Stays) Goes)
+        go : (b : Bool) → in_window from to h ≡ b → (l : Bool) → (loses g) ≡ l → Here (cond b (cond l (Entries r.entries.at r.count) Stays) Goes)
         go false z l k = (sym (w.left ∙ rw z), tt)
         go true z true k = (
           rw many (sym (w.left ∙ rw z)),
@@ -208,7 +215,7 @@ module _ {longest : ℕ} {ms new_indexes d : List ℕ} (oc : Octets d) {at : ℕ
         )
         go true z false k = by_stays y e (rib_whole w (subst (λ (s : St). length (kept (λ n. mem n ms) (numbers s)) ≡ length (numbers s)) is (step.none k)) z)
 
-    fated : (y : Shown) → x ≡ y → Is (fate_of from to ms g.lost y)
+    fated : (y : Shown) → x ≡ y → Here (fate_of from to ms (loses g) y)
     unfolding fate_of
     fated Nothing e = absurd (not_nothing e)
     fated (Err why) e = absurd (not_refused why.number why.place e)
@@ -220,5 +227,5 @@ module _ {longest : ℕ} {ms new_indexes d : List ℕ} (oc : Octets d) {at : ℕ
     fated (Good h (Change r v)) e = by_whole _ _ e (whole_change from to h r v e)
     fated (Good h (Message r v)) e = by_whole _ _ e (whole_message from to h r v e)
 
-    pub fate_is : (l : Fate) → l ≡ fate_of from to ms g.lost x → Is l
-    fate_is l k = rw k (fated x refl)
+    pub fate_is : {lost : Bool} → lost ≡ loses g → (l : Fate) → l ≡ fate_of from to ms lost x → Here l
+    fate_is e l k = rw (k, e) (fated x refl)

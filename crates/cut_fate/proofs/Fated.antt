@@ -1,27 +1,17 @@
 -- What becomes of a record, from what code has found of it.
-use mathlib.Core.Path.{◌≡◌, ap₂, ◌∙◌}
+use mathlib.Core.Path.{◌≡◌, ◌∙◌}
 use mathlib.Core.Bool.{Bool, cond, not, ◌&&◌}
 use mathlib.Core.List.{List}
-use Prim.Native.Nat.{ℕ, ◌+◌, ◌-◌}
+use Prim.Native.Nat.{ℕ}
 use lib.Dec.{leb, ltb}
-use Rattle.octets_spec.specs.Be.{num_at}
 use Rattle.record_spec.specs.Shown.{Shown}
 use Rattle.look_spec.specs.Sort as sort
 use Rattle.look_spec.specs.Sort.{sort_of}
-use Rattle.look_spec.specs.Field.{time_of, peer_of, items_at, count_of, Counted}
-use Rattle.look_laws.proofs.There.{items-counted}
+use Rattle.look_spec.specs.Field.{time_of, peer_of, items_at, count_of}
 use Rattle.cut_spec.specs.Cut.{mem}
 use Rattle.cut_spec.specs.Fate.{fate_of}
 use Rattle.cut_spec.specs.declared.Fate.{Fate}
 use Rattle.cut_spec.specs.declared.Fate.TheVariants.{Stays, Goes, Peers, Entries}
-
--- items that are counted at r
-module _ {d : List ℕ} {at r n : ℕ} {x : Shown} (c : Counted d at r x) (e : n ≡ num_at d r 2) where
-  pub peers_there : Peers (r + 2 - at) n ≡ Peers (items_at x) (count_of x)
-  peers_there = let k = items-counted d at r n x c e in ap₂ Peers k.0 k.1
-
-  pub entries_there : Entries (r + 2 - at) n ≡ Entries (items_at x) (count_of x)
-  entries_there = let k = items-counted d at r n x c e in ap₂ Entries k.0 k.1
 
 module _ (from to : ℕ) (ms : List ℕ) (lost : Bool) (x : Shown) {l : Fate} where
   pub fate_unread : {time : ℕ} → sort_of x ≡ sort.unread → time ≡ time_of x → l ≡ cond (leb from time && ltb time to) Stays Goes → l ≡ fate_of from to ms lost x

@@ -1,6 +1,5 @@
 -- Laws of one entry and one peer as they are laid.
-use mathlib.Core.Path.{◌≡◌, refl, sym, ap, ◌∙◌}
-use mathlib.Core.Bool.{Bool, true, false, cond}
+use mathlib.Core.Path.{◌≡◌, sym, ap, ◌∙◌}
 use mathlib.Core.List.{List, [], ◌∷◌, ◌++◌}
 use Prim.Native.Nat.{ℕ, ◌+◌, ◌≤◌}
 use native.Mathlib.Omega.{arith}
@@ -13,7 +12,6 @@ use Rattle.form_laws.proofs.Found.{fits_of, item-octets}
 use Rattle.form_laws.proofs.Octets.{octets-drop, length-to_be}
 use Rattle.cut_spec.specs.Cut.{renumber}
 use Rattle.page_spec.specs.Rib.{entry}
-use Rattle.page_spec.specs.Peers.{peer}
 use Rattle.octets_spec.specs.Over.{over}
 use Rattle.cut_laws.proofs.Laid.{over_within}
 
@@ -33,9 +31,3 @@ renumbered m at n k oc h out l out' put size es room a b =
         let z : put + 0 ≡ put = omega arith in
         b ∙ rw w (rw z at (over_within out put [] c (join cs) (to_be 2 k) lz r))
     go [] f e w = elim f [ ]
-
--- a peer's octets, or none
-pub copied : (t : Bool) (m : List ℕ) (at size : ℕ) → Octets m → Lies peer (drop at m) → size ≡ length (join (item peer (drop at m)))
-    → cond t [] (take size (drop at m)) ≡ cond t [] (join (item peer (drop at m)))
-copied true m at size oc h e = refl
-copied false m at size oc h e = rw (e, item-octets peer (drop at m) (octets-drop at m oc) h)

@@ -17,7 +17,7 @@ use Rattle.cut_laws.proofs.Cut.{renumber-length}
 use Rattle.page_spec.specs.Rib.{entry_rest, entry}
 use Rattle.form_spec.specs.Found.{Lie, items, item}
 use Rattle.cut_spec.specs.Moved.{moved, sieved}
-use Rattle.cut_spec.specs.Laid.{laid, Roomy}
+use Rattle.cut_spec.specs.Laid.{laid, Room, Roomy}
 use Rattle.form_laws.proofs.Found.{Here, left_n, here_of, tail, Next, next, none_left}
 use Rattle.cut_laws.proofs.Laid.{laid_nothing, laid_behind_some, length-laid}
 
@@ -109,48 +109,57 @@ module _ {f : Fmt} {stay : ℕ → List (List (List ℕ)) → List (List (List �
   pub ahead : 0 < left → Next f m at left r.its r.rest
   ahead p = next f m at left r.its r.rest r.here p
 
-  module _ (p : 0 < left) (roomy : Roomy lays out₀ put₀ (stay 0 all)) {size : ℕ} {t : Bool} (es : size ≡ length (join (item f (drop at m)))) (et : t ≡ gone i (item f (drop at m))) where
+  module _ (p : 0 < left) (roomy : Roomy lays out₀ put₀ (stay 0 all)) {size : ℕ} (es : size ≡ length (join (item f (drop at m)))) where
     -- the next item has room, if it stays
-    pub lay-room : lays ≡ true → t ≡ false → end + size ≤ length out
-    lay-room l s =
+    pub lay-room : gone i (item f (drop at m)) ≡ false → Room lays out end size
+    lay-room z l =
         let o = first v m at i left r.its r.rest (ahead p) in
-        let z : gone i (item f (drop at m)) ≡ false = sym et ∙ s in
         let c1 : length (stay i r.its) ≡ 1 + length (stay (i + 1) (tail r.its)) = rw z at o.0 in
         let c2 : length (joins (stay i r.its)) ≡ length (join (item f (drop at m))) + length (joins (stay (i + 1) (tail r.its))) = rw (o.1, length-append, o.2, z) in
         let b = roomy l (omega (arith, r.counted)) in
         omega (arith, r.ends, r.long, c2, es, b)
 
-    pub lay_turn : {out' : List ℕ} {at' i' left' kept' end' : ℕ} → kept' ≡ kept + cond t 0 1 → end' ≡ end + cond t 0 size → out' ≡ laid lays out end (cond t [] (join (new (item f (drop at m)))))
-        → at' ≡ at + size → i' ≡ i + 1 → left' ≡ left - 1 → Laying f stay lays m all count out₀ put₀ out' at' i' left' kept' end'
-    lay_turn {out'} {at'} {i'} {left'} {kept'} {end'} ek ee eo ea ei el =
-        let x = ahead p in
-        let it : List (List ℕ) = item f (drop at m) in
-        let w : List ℕ = cond (gone i it) [] (join (new it)) in
-        let y : List ℕ = joins (stay (i + 1) (tail r.its)) in
-        let o = first v m at i left r.its r.rest x in
-        let l : length (joins (stay i r.its)) ≡ cond (gone i it) 0 (length (join it)) + length y = rw (o.1, length-append, o.2) in
-        let lw : length w ≡ cond (gone i it) 0 (length (join it)) = o.2 in
-        let roomw : lays ≡ true → 0 < length (w ++ y) → end + length (w ++ y) ≤ length out =
-        λ q h. let b : 0 < length (stay i r.its) = some_item (stay i r.its) (rw o.1 h) in
-        let k = roomy q (omega (arith, r.counted)) in
-        let n : length (w ++ y) ≡ length (joins (stay i r.its)) = rw o.1 in
-        omega (arith, n, r.ends, r.long, k) in
-        rw (ek, ee, ea, ei, el, eo, es, et, ← lw)
-        (record {
-          its = tail r.its;
-          rest = r.rest;
-          here = x.on;
-          long = length_some w y roomw ∙ r.long;
-          counted = omega (arith, r.counted, o.0);
-          ends = omega (arith, r.ends, l, lw);
-          holds = laid_behind_some lays out end w y roomw ∙ ap (laid lays out end) (sym o.1) ∙ r.holds;
-          few = omega (arith, r.few, one_le (gone i it) 1);
-          used = omega (arith, r.used, lw, one_le (gone i it) (length (join it)));
-        })
-      where
-        length_some : (w y : List ℕ) → (lays ≡ true → 0 < length (w ++ y) → end + length (w ++ y) ≤ length out) → length (laid lays out end w) ≡ length out
-        length_some [] y h = ap length (laid_nothing lays out end)
-        length_some (a ∷ w) y h = length-laid lays out end (a ∷ w) (λ q. let n : length ((a ∷ w) ++ y) ≡ suc (length w) + length y = length-append (a ∷ w) y in omega (arith, h q (omega arith)))
+    -- it is passed
+    module _ {out' : List ℕ} {at' left' kept' end' : ℕ} (ea : at' ≡ at + size) (el : left' ≡ left - 1) where
+      lay_turn : let t = gone i (item f (drop at m)) in
+          kept' ≡ kept + cond t 0 1 → end' ≡ end + cond t 0 size → out' ≡ laid lays out end (cond t [] (join (new (item f (drop at m)))))
+          → Laying f stay lays m all count out₀ put₀ out' at' (i + 1) left' kept' end'
+      lay_turn ek ee eo =
+          let x = ahead p in
+          let it : List (List ℕ) = item f (drop at m) in
+          let w : List ℕ = cond (gone i it) [] (join (new it)) in
+          let y : List ℕ = joins (stay (i + 1) (tail r.its)) in
+          let o = first v m at i left r.its r.rest x in
+          let l : length (joins (stay i r.its)) ≡ cond (gone i it) 0 (length (join it)) + length y = rw (o.1, length-append, o.2) in
+          let lw : length w ≡ cond (gone i it) 0 (length (join it)) = o.2 in
+          let roomw : lays ≡ true → 0 < length (w ++ y) → end + length (w ++ y) ≤ length out =
+          λ q h. let b : 0 < length (stay i r.its) = some_item (stay i r.its) (rw o.1 h) in
+          let k = roomy q (omega (arith, r.counted)) in
+          let n : length (w ++ y) ≡ length (joins (stay i r.its)) = rw o.1 in
+          omega (arith, n, r.ends, r.long, k) in
+          rw (ek, ee, ea, el, eo, es, ← lw)
+          (record {
+            its = tail r.its;
+            rest = r.rest;
+            here = x.on;
+            long = length_some w y roomw ∙ r.long;
+            counted = omega (arith, r.counted, o.0);
+            ends = omega (arith, r.ends, l, lw);
+            holds = laid_behind_some lays out end w y roomw ∙ ap (laid lays out end) (sym o.1) ∙ r.holds;
+            few = omega (arith, r.few, one_le (gone i it) 1);
+            used = omega (arith, r.used, lw, one_le (gone i it) (length (join it)));
+          })
+        where
+          length_some : (w y : List ℕ) → (lays ≡ true → 0 < length (w ++ y) → end + length (w ++ y) ≤ length out) → length (laid lays out end w) ≡ length out
+          length_some [] y h = ap length (laid_nothing lays out end)
+          length_some (a ∷ w) y h = length-laid lays out end (a ∷ w) (λ q. let n : length ((a ∷ w) ++ y) ≡ suc (length w) + length y = length-append (a ∷ w) y in omega (arith, h q (omega arith)))
+
+      pub lay_stays : gone i (item f (drop at m)) ≡ false → kept' ≡ kept + 1 → end' ≡ end + size → out' ≡ laid lays out end (join (new (item f (drop at m))))
+          → Laying f stay lays m all count out₀ put₀ out' at' (i + 1) left' kept' end'
+      lay_stays z ek ee eo = lay_turn (rw z ek) (rw z ee) (rw z eo)
+
+      pub lay_goes : gone i (item f (drop at m)) ≡ true → kept' ≡ kept → end' ≡ end → out' ≡ out → Laying f stay lays m all count out₀ put₀ out' at' (i + 1) left' kept' end'
+      lay_goes z ek ee eo = lay_turn (rw z (omega (arith, ek))) (rw z (omega (arith, ee))) (rw z (eo ∙ sym (laid_nothing lays out end)))
 
   pub lay_done : left ≤ 0 → (kept ≡ length (stay 0 all)) × (end ≡ put₀ + length (joins (stay 0 all))) × (out ≡ laid lays out₀ put₀ (joins (stay 0 all)))
   lay_done p =

@@ -1,6 +1,6 @@
 -- A record with other items, as it is laid: its items behind room for the front, and then the front.
 use mathlib.Core.Path.{◌≡◌, refl, sym, ap, ◌∙◌}
-use mathlib.Core.Bool.{Bool, true, false, cond, ◌||◌, false≢true}
+use mathlib.Core.Bool.{Bool, true, false, cond, ◌||◌, or-true, false≢true}
 use mathlib.Core.List.{List, [], ◌∷◌, ◌++◌, append_assoc}
 use Prim.Native.Nat.{ℕ, ◌+◌, ◌-◌, ◌≤◌, ◌<◌}
 use native.Mathlib.Omega.{arith}
@@ -111,10 +111,6 @@ module _ (d : List ℕ) (at off : ℕ) (its : List (List (List ℕ))) (past : 14
           )
 
 -- ---- a RIB record that is left, or not
-
-or-true : (b : Bool) → (b || true) ≡ true
-or-true true = refl
-or-true false = refl
 
 or-false : (b c : Bool) → (b || c) ≡ false → c ≡ false
 or-false true c e = absurd (false≢true (sym e))

@@ -7,20 +7,19 @@ use Prim.Native.Nat.{ℕ, ◌+◌, ◌≤◌, ◌<◌}
 use native.Mathlib.Omega.{arith}
 use lib.ListN.{length, take, drop, get_or, set, length-set, length-replicate, get_or-replicate, get_or-eq_default}
 use lib.Seq.{get_or-set_same, get_or-set_other}
-use lib.Dec.{eqb}
-use borrow.Author.Tests.{eqb-true, eqb-false}
+use Rattle.std.proofs.lemmas.Bool.{cases_Bool, cases_lt, cases_eq}
 use Rattle.cut_spec.specs.Cut.{mem}
 use Rattle.mutes_spec.specs.Slots.{at_place, Comes, Has, empty_slots, SlotsHold}
 use Rattle.mutes.specs.LookEnds.{LookEnds}
 use Rattle.mutes.proofs.Members.{mem-parts, mem_at, mem-next}
-use Rattle.mutes.proofs.Look.{is_or_is_not, less_or_not, stops_at_one, Keeps, comes-kept}
+use Rattle.mutes.proofs.Look.{stops_at_one, Keeps, comes-kept}
 
 empty_long : length empty_slots ≡ 196608
 empty_long = length-replicate {A = ℕ} 196608 0
 
 slot_empty : (s : ℕ) → get_or empty_slots s 0 ≡ 0
 slot_empty s =
-    ⊎_elim (λ l. get_or-replicate 196608 s 0 0 l) (λ h. get_or-eq_default empty_slots 0 {n = s} (omega (arith, h, empty_long))) (less_or_not s 196608)
+    ⊎_elim (λ l. get_or-replicate 196608 s 0 0 l) (λ h. get_or-eq_default empty_slots 0 {n = s} (omega (arith, h, empty_long))) (cases_lt s 196608)
 
 -- empty slots hold nothing of any list
 pub holds_none : (ms slots : List ℕ) → ((i : ℕ) → get_or ms i 0 < 4294967296) → slots ≡ empty_slots → SlotsHold ms slots 0
@@ -69,7 +68,7 @@ module _ {ms slots : List ℕ} {k : ℕ} (h : SlotsHold ms slots k) where
 
       -- what holds of e and of each other slot holds of all
       each : (P : ℕ → Type 0) → P e → ((s : ℕ) → (s ≡ e → ⊥) → P s) → (s : ℕ) → P s
-      each P p f s = ⊎_elim (λ t. rw (eqb-true s e t) p) (λ q. f s (eqb-false s e q)) (is_or_is_not (eqb s e))
+      each P p f s = ⊎_elim (λ t. rw t p) (f s) (cases_eq s e)
 
       named : get_or ms k 0 ≡ at_place ms (get_or (set slots e (k + 1)) e 0)
       named = ap (λ (i : ℕ). get_or ms i 0) (omega (arith, at_end))
@@ -104,4 +103,4 @@ module _ {ms slots : List ℕ} {k : ℕ} (h : SlotsHold ms slots k) where
 
   pub not_held : {n e : ℕ} → LookEnds ms slots n e → get_or slots e 0 ≡ 0 → mem n ms ≡ mem n (drop k ms)
   not_held {n} ends z =
-      mem-parts n k ms ∙ ⊎_elim (λ t. let q = h.all_held n t in absurd (not_among_held ends z q.0 q.1)) (λ f. ap (λ (b : Bool). b || mem n (drop k ms)) f) (is_or_is_not (mem n (take k ms)))
+      mem-parts n k ms ∙ ⊎_elim (λ t. let q = h.all_held n t in absurd (not_among_held ends z q.0 q.1)) (λ f. ap (λ (b : Bool). b || mem n (drop k ms)) f) (cases_Bool (mem n (take k ms)))

@@ -1,22 +1,13 @@
 -- A look for a number: what it passes, where it stops, and that it goes the same way when more numbers are put.
 use mathlib.Core.Path.{◌≡◌, refl, sym, ap, ◌∙◌}
-use mathlib.Core.Bool.{Bool, true, false}
-use mathlib.Core.Logic.{◌⊎◌, inl, inr, ⊎_elim}
+use mathlib.Core.Logic.{⊎_elim}
 use mathlib.Core.List.{List}
-use Prim.Native.Nat.{ℕ, zero, suc, ◌/◌, ◌%◌, ◌≤◌, ◌<◌}
+use Prim.Native.Nat.{ℕ, zero, suc, ◌/◌, ◌≤◌, ◌<◌}
 use native.Mathlib.Nat.{eq-or-lt_of_le}
 use native.Mathlib.Omega.{arith}
 use lib.ListN.{get_or}
-use lib.Dec.{ltb}
-use borrow.Author.Tests.{ltb-true, ltb-false}
+use Rattle.std.proofs.lemmas.Bool.{cases_lt}
 use Rattle.mutes_spec.specs.Slots.{slot_behind, bits_after, slot_after, GoesOn, Passes, Comes, SlotsHold}
-
-pub is_or_is_not : (b : Bool) → (b ≡ true) ⊎ (b ≡ false)
-is_or_is_not true = inl refl
-is_or_is_not false = inr refl
-
-pub less_or_not : (t u : ℕ) → (t < u) ⊎ (u ≤ t)
-less_or_not t u = ⊎_elim (λ h. inl (ltb-true t u h)) (λ h. inr (ltb-false t u h)) (is_or_is_not (ltb t u))
 
 -- ---- how far a look for n has come
 
@@ -35,7 +26,7 @@ module _ (ms slots : List ℕ) (n : ℕ) where
   one_stop : (t u : ℕ) → Passes t ms slots n → Passes u ms slots n
       → (GoesOn ms slots n (slot_after t slots n) → ⊥) → (GoesOn ms slots n (slot_after u slots n) → ⊥) → t ≡ u
   one_stop t u p q a b =
-      ⊎_elim (λ h. absurd (a (passed u t h q))) (λ h. ⊎_elim (λ g. absurd (b (passed t u g p))) (λ g. omega (arith, h, g)) (less_or_not u t)) (less_or_not t u)
+      ⊎_elim (λ h. absurd (a (passed u t h q))) (λ h. ⊎_elim (λ g. absurd (b (passed t u g p))) (λ g. omega (arith, h, g)) (cases_lt u t)) (cases_lt t u)
 
   pub stops_at_one : {s r : ℕ} → Comes ms slots n s → Comes ms slots n r → (GoesOn ms slots n s → ⊥) → (GoesOn ms slots n r → ⊥) → s ≡ r
   stops_at_one (t, p, e) (u, q, f) a b =
@@ -65,9 +56,6 @@ pub record Coming (ms slots : List ℕ) (n s bits : ℕ) : Type 0 where
   pub went_on : Passes turns ms slots n
   pub slot_is : slot_after turns slots n ≡ s
   pub bits_are : bits_after turns n ≡ bits
-
-pub look_starts : (ms slots : List ℕ) (n : ℕ) → Coming ms slots n (n % 65536) (n / 65536)
-look_starts ms slots n = record { is_slot = omega arith; turns = 0; went_on = tt; slot_is = refl; bits_are = refl }
 
 abbrev pub look_on : {ms slots : List ℕ} {k n s bits : ℕ} → SlotsHold ms slots k → Coming ms slots n s bits → GoesOn ms slots n s
     → Coming ms slots n (slot_behind (get_or slots s 0) bits) (bits / 2)

@@ -7,11 +7,12 @@ use mathlib.Core.List.{List}
 use Prim.Native.Nat.{ℕ, zero, suc, ◌+◌, ◌/◌, ◌%◌, ◌≤◌, ◌<◌}
 use native.Mathlib.Omega.{arith}
 use lib.ListN.{get_or}
+use Rattle.std.proofs.lemmas.Bool.{cases_lt}
 use lib.Dec.{ltb, eqb}
 use borrow.Author.Tests.{lt-ltb, ltb-true, ne_eqb, eqb-false}
 use Rattle.mutes_spec.specs.Slots.{at_place, slot_behind, bits_after, slot_after, GoesOn, Passes, SlotsHold}
 use Rattle.mutes.specs.LookEnds.{LookEnds}
-use Rattle.mutes.proofs.Look.{less_or_not, passes_fewer, stops_at_one, Coming, look_on}
+use Rattle.mutes.proofs.Look.{passes_fewer, stops_at_one, Coming, look_on}
 
 -- alike in the last 16 bits, and in so many more
 abbrev Alike : (bits n m : ℕ) → Type 0
@@ -85,7 +86,7 @@ module _ {ms slots : List ℕ} {k : ℕ} (h : SlotsHold ms slots k) where
       q.1.1 (alike_same _ _ (h.of32_bits _) (h.of32_bits _) (met 16 _ q.0 q.1.0).1)
 
   within_17 : (t n : ℕ) → Passes t ms slots n → t ≤ 17
-  within_17 t n p = ⊎_elim (λ l. absurd (not_met n (passes_fewer ms slots n t 18 l p))) (λ h. h) (less_or_not 17 t)
+  within_17 t n p = ⊎_elim (λ l. absurd (not_met n (passes_fewer ms slots n t 18 l p))) (λ h. h) (cases_lt 17 t)
 
   -- behind the 17th turn there is nothing to be counted
   same_left : (m : ℕ) {n s bits : ℕ} (c : Coming ms slots n s bits) → 17 ≤ c.turns + m → turns_left (suc m) ms slots n s bits ≡ turns_left m ms slots n s bits

@@ -1,57 +1,20 @@
 -- `cut_fate::rib_fate` meets its contract.
-use mathlib.Core.Path.{◌≡◌, sym, ap, ◌∙◌}
-use mathlib.Core.Bool.{false, ◌&&◌}
-use Prim.Native.Nat.{ℕ}
+use mathlib.Core.Path.{◌≡◌, sym, ◌∙◌}
+use mathlib.Core.Bool.{false}
 use native.Mathlib.Omega.{arith}
-use lib.Dec.{leb, ltb}
 use Rattle.page_spec.specs.Layout.{finer}
-use Rattle.look_spec.specs.Field.{Told, type_of, time_of, shown, Good, Counted}
+use Rattle.look_spec.specs.Field.{type_of, shown}
 use Rattle.look_laws.proofs.Sort.{is_rib, early}
 use Rattle.look_laws.proofs.There.{sorted}
-use Rattle.cut_fate.proofs.Fated.{entries_there}
-use Rattle.cut_fate.proofs.rib_fate.Goals.{After-entry_count_at-counted, After-inside, After-shared_slice_known-1}
+use Rattle.cut_fate.proofs.rib_fate.Goals.{Start}
 use Rattle.cut_fate.proofs.rib_fate.Goals as goal
 
 -- it has no microseconds
-coarse : (c : After-shared_slice_known-1) → let a = c.args in finer (type_of (shown c.requires.0 a.d.now a.at)) ≡ false
+coarse : (c : Start) → let a = c.args in finer (type_of (shown c.requires.0 a.d.now a.at)) ≡ false
 coarse c =
     let k = c.requires in
     let e = (is_rib _ _ (sym (sorted k.0 _ _ k.1) ∙ k.2.0)).0 in
     early _ (λ z. omega arith) (λ z. omega arith) (λ z. omega arith)
 
--- whether its time is inside
-within : (c : After-inside) → let a = c.args in
-    (t : Told) → Good t a.d.now a.at → (leb a.w.start (time_of (shown t a.d.now a.at)) && ltb (time_of (shown t a.d.now a.at)) a.w.end) ≡ c.inside.result
-within c t g =
-    let a = c.args in
-    sym (c.inside.ensures ∙ ap (λ (m : ℕ). leb a.w.start m && ltb m a.w.end) (c.seconds.ensures t g))
-
--- where the entries are counted
-counted : (c : After-entry_count_at-counted) →
-    Counted c.args.d.now c.args.at c.entry_count_at-counted.result (shown c.requires.0 c.args.d.now c.args.at)
-counted c =
-    let k = c.requires in c.entry_count_at-counted.ensures k.0 k.1
-
 pub seconds-requires : goal.seconds-requires
-seconds-requires c = let k = c.requires in (k.0, k.1, coarse (goal.at.seconds-requires c).After-shared_slice_known-1)
-
-pub entry_count_at-counted-requires : goal.entry_count_at-counted-requires
-entry_count_at-counted-requires c = c.requires
-
-pub overflow_add-result : goal.overflow_add-result
-overflow_add-result c = let k = counted (goal.at.overflow_add-result c).After-entry_count_at-counted in omega (arith, k.inside)
-
-pub overflow_sub-result : goal.overflow_sub-result
-overflow_sub-result c = let k = counted (goal.at.overflow_sub-result c).After-entry_count_at-counted in omega (arith, k.items)
-
-pub count-requires : goal.count-requires
-count-requires c = (counted (goal.at.count-requires c).After-entry_count_at-counted).inside
-
-pub returns-then-lost : goal.returns-then-lost
-returns-then-lost c = λ t g. rw (within (goal.at.returns-then-lost c).After-inside t g ∙ c.if-inside.true, c.if-lost.true) (entries_there (c.entry_count_at-counted.ensures t g) c.count.ensures.0)
-
-pub returns-then-inside : goal.returns-then-inside
-returns-then-inside c = λ t g. rw (within (goal.at.returns-then-inside c).After-inside t g ∙ c.if-inside.true, c.if-lost.false)
-
-pub returns : goal.returns
-returns c = λ t g. rw (within (goal.at.returns c).After-inside t g ∙ c.if-inside.false)
+seconds-requires c = let k = c.requires in (k.0, k.1, coarse (goal.at.seconds-requires c).Start)

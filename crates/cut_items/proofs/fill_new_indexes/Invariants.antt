@@ -1,7 +1,4 @@
-use mathlib.Core.Bool.{Bool}
-use mathlib.Core.List.{List}
-use Prim.Native.Nat.{ℕ, ◌-◌}
-use lib.ListN.{drop}
+use Rattle.std.proofs.Common.{Bool, List, ℕ, drop}
 use Rattle.cut_spec.specs.Cut.{mem}
 use Rattle.page_spec.specs.Peers.{peer}
 use Rattle.form_spec.specs.Found.{items}
@@ -12,7 +9,4 @@ abbrev pub gone : List ℕ → ℕ → Bool
 gone mutes n = mem n mutes
 
 abbrev pub invariant-loop-i : goal.invariant-loop-i
-invariant-loop-i l = Filling l.m (gone l.mutes) (items peer l.count (drop l.from l.m)) l.initial.new_indexes l.new_indexes l.count l.at l.i l.k
-
-abbrev pub decreases-loop-i : goal.decreases-loop-i
-decreases-loop-i l = l.count - l.i
+invariant-loop-i l = Filling l.m (gone l.mutes) (items peer l.count (drop l.from l.m)) l.initial.new_indexes l.new_indexes l.count l.at l.i l.kept

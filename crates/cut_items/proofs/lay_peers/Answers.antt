@@ -1,100 +1,69 @@
 -- `cut_items::lay_peers` meets its contract.
-use mathlib.Core.Path.{◌≡◌, refl, ap, ◌∙◌}
-use Prim.Native.Nat.{◌+◌, ◌-◌, ◌≤◌}
-use native.Mathlib.Omega.{arith}
-use lib.ListN.{length, drop}
-use lib.Dec.{leb}
-use borrow.Author.Rules.{rules}
+use Rattle.std.proofs.Common.{◌≡◌, refl, ap, ◌∙◌, ◌-◌, ◌<◌, length, take, drop, get_or, arith}
+use Rattle.std.proofs.lemmas.List.{get_or-take, length-take}
+use borrow.Author.Tests.{lt-leb, le-leb}
+use Rattle.form_laws.proofs.Octets.{octets_of_lem, octets-drop}
+use Rattle.form_laws.proofs.Found.{item-octets}
 use Rattle.form_spec.specs.Octets.{Octets}
-use Rattle.form_laws.proofs.Octets.{octets_of_lem}
-use Rattle.page_spec.specs.Peers.{peer}
 use Rattle.form_spec.specs.Fmt.{join}
-use Rattle.form_spec.specs.Found.{item}
-use Rattle.cut_spec.specs.Moved.{sieved}
+use Rattle.form_spec.specs.Found.{Lies, item}
+use Rattle.page_spec.specs.Peers.{peer}
 use Rattle.cut_spec.specs.Laid.{laid}
-use Rattle.form_laws.proofs.Found.{Next}
-use Rattle.look_laws.proofs.Items.{PeerAt, peer_at_lem, small_peer}
-use Rattle.cut_items.proofs.Laws.{copied}
-use Rattle.cut_items.proofs.Loop.{keeps, ahead, lay-starts, lay-room, lay_turn, lay_done}
-use Rattle.cut_items.proofs.lay_peers.Goals.{After-peer_end-next, After-shared_slice_known-1, In-loop-i}
+use Rattle.cut_spec.specs.Moved.{sieved}
+use Rattle.look_laws.proofs.Items.{peer_at_lem, small_peer}
+use Rattle.cut_items.proofs.Loop.{keeps, ahead, lay-starts, lay-room, lay_stays, lay_goes, lay_done}
+use Rattle.cut_items.proofs.lay_peers.Goals.{In-loop-new, then-stays, else-stays}
 use Rattle.cut_items.proofs.lay_peers.Goals as goal
 
-octets : (c : After-shared_slice_known-1) → Octets c.args.m.now
-octets c =
-    octets_of_lem c.args.m.now (λ k. omega (arith, c.shared_slice_known-1.given k))
-
--- the peer at `at`, and those behind it
-next : (c : In-loop-i) → let a = c.args in
-    let l = c.loop-i in
-    Next peer a.m.now l.at (a.count - l.i) l.invariant.its l.invariant.rest
-next c =
-    let a = c.args in ahead (keeps peer a.new_indexes.now) c.loop-i.invariant (omega (arith, c.loop-i-test.true))
-
-there : (c : In-loop-i) → let m = c.args.m.now in
-    let at = c.loop-i.at in
-    PeerAt m at (item peer (drop at m))
-there c =
-    let octets : (Octets c.args.m.now) = octets_of_lem c.args.m.now (λ k. omega (arith, c.shared_slice_known-1.given k)) in
-    let next : (let a = c.args in let l = c.loop-i in Next peer a.m.now l.at (a.count - l.i) l.invariant.its l.invariant.rest) = let a = c.args in ahead (keeps peer a.new_indexes.now) c.loop-i.invariant (omega (arith, c.loop-i-test.true)) in
-    peer_at_lem _ _ octets next.lies
-
--- where the peer ends
-ends : (c : After-peer_end-next) → let m = c.args.m.now in
-    let at = c.loop-i.at in
-    (c.peer_end-next.result ≡ at + length (join (item peer (drop at m)))) × (c.peer_end-next.result ≤ length m) × (c.peer_end-next.result ≤ at + 25)
-ends c =
-    let next : (let a = c.args in let l = c.loop-i in Next peer a.m.now l.at (a.count - l.i) l.invariant.its l.invariant.rest) = let a = c.args in ahead (keeps peer a.new_indexes.now) c.loop-i.invariant (omega (arith, c.loop-i-test.true)) in
-    let r = c.peer_end-next.ensures in
-    let e = r.1 next.lies in
-    (e.0, e.1, omega (arith, r.0, small_peer c.args.m.now c.loop-i.at))
-
--- and so its octets
-sized : (c : After-peer_end-next) → let m = c.args.m.now in
-    let at = c.loop-i.at in
-    c.peer_end-next.result - at ≡ length (join (item peer (drop at m)))
-sized c =
-    let next : (let a = c.args in let l = c.loop-i in Next peer a.m.now l.at (a.count - l.i) l.invariant.its l.invariant.rest) = let a = c.args in ahead (keeps peer a.new_indexes.now) c.loop-i.invariant (omega (arith, c.loop-i-test.true)) in
-    let ends : (let m = c.args.m.now in let at = c.loop-i.at in (c.peer_end-next.result ≡ at + length (join (item peer (drop at m)))) × (c.peer_end-next.result ≤ length m) × (c.peer_end-next.result ≤ at + 25)) = let r = c.peer_end-next.ensures in let e = r.1 next.lies in (e.0, e.1, omega (arith, r.0, small_peer c.args.m.now c.loop-i.at)) in
-    let e = ends in omega arith
-
-pub loop-i-init : goal.loop-i-init
-loop-i-init c =
+pub loop-new-init : goal.loop-new-init
+loop-new-init c =
     let a = c.args in
-    lay-starts peer (sieved a.new_indexes.now) a.lays a.m.now a.from a.count 0 (a.count - 0) a.out.now a.put (octets (goal.at.loop-i-init c).After-shared_slice_known-1) c.requires.lie c.requires.count_bound.1 refl (omega arith)
+    lay-starts peer (sieved a.new_indexes.now) a.lays a.m.now a.from a.count 0 (a.count - 0) a.out.now a.put
+    (octets_of_lem _ (λ k. omega (arith, c.type_inv.m k))) c.requires.lie c.requires.count_bound.1 refl (omega arith)
+
+octets : (c : In-loop-new) → Octets c.args.m.now
+octets c = octets_of_lem _ (λ k. omega (arith, c.type_inv.m k))
+
+-- some are left, the next of them at `at`
+more : (c : In-loop-new) → 0 < c.args.count - c.loop-new.new-index
+more c = omega (arith, c.loop-new-test.true, length-take c.args.count c.args.new_indexes.now)
+
+lies : (c : In-loop-new) → Lies peer (drop c.loop-new.at c.args.m.now)
+lies c = (ahead (keeps peer c.args.new_indexes.now) c.loop-new.invariant (more c)).lies
+
+-- its new index
+new : (c : In-loop-new) → get_or (take c.args.count c.args.new_indexes.now) c.loop-new.new-index 0 ≡ get_or c.args.new_indexes.now c.loop-new.new-index 0
+new c = let lt : c.loop-new.new-index < c.args.count = omega (arith, more c) in get_or-take _ _ _ _ lt
 
 pub peer_end-next-requires : goal.peer_end-next-requires
-peer_end-next-requires c = let e = there (goal.at.peer_end-next-requires c).In-loop-i in omega (arith, e.end, e.room)
+peer_end-next-requires c = let h = (goal.at.peer_end-next-requires c).In-loop-new in let e = peer_at_lem _ _ (octets h) (lies h) in omega (arith, e.end, e.room)
 
-pub new_index-gone-requires : goal.new_index-gone-requires
-new_index-gone-requires c = let p = c.requires.count_bound.0 in search rules
+pub lay_peer-requires-clause-size_bound : goal.lay_peer-requires-clause-size_bound
+lay_peer-requires-clause-size_bound c =
+    let e = c.peer_end-next.ensures in
+    let s = e.1 (lies (goal.at.lay_peer-requires-clause-size_bound c).In-loop-new) in
+    (omega (arith, e.0, small_peer c.args.m.now c.loop-new.at), omega (arith, s.0, s.1))
 
-pub overflow_sub-next : goal.overflow_sub-next
-overflow_sub-next c = let e = ends (goal.at.overflow_sub-next c).After-peer_end-next in omega arith
+pub lay_peer-requires-clause-room : goal.lay_peer-requires-clause-room
+lay_peer-requires-clause-room c =
+    let h = (goal.at.lay_peer-requires-clause-room c).In-loop-new in
+    let s = c.peer_end-next.ensures.1 (lies h) in
+    lay-room (keeps peer c.args.new_indexes.now) c.loop-new.invariant (more h) c.requires.roomy (omega (arith, s.0)) (lt-leb 65535 _ (omega (arith, new h, c.if-stays.true)))
 
-pub lay_peer-s-requires : goal.lay_peer-s-requires
-lay_peer-s-requires c =
-    let l = c.loop-i in
-    let a = c.args in
-    let e = ends (goal.at.lay_peer-s-requires c).After-peer_end-next in
-    let u = l.invariant.used in
-    let f = l.invariant.few in record { size_bound = (omega arith, omega arith, u, omega arith); size_in_bounds = λ q h. lay-room (keeps peer a.new_indexes.now) l.invariant (omega (arith, c.loop-i-test.true)) c.requires.roomy (sized (goal.at.lay_peer-s-requires c).After-peer_end-next) (ap (leb 65535) c.new_index-gone.ensures) q h }
-
-pub loop-i-preserved : goal.loop-i-preserved
-loop-i-preserved c =
-    let l = c.loop-i in
-    let a = c.args in
-    let n = sized (goal.at.loop-i-preserved c).After-peer_end-next in
-    let e = ends (goal.at.loop-i-preserved c).After-peer_end-next in
-    let x = c.lay_peer-s.ensures in
-    let y = copied (leb 65535 c.new_index-gone.result) a.m.now l.at _ (octets (goal.at.loop-i-preserved c).After-shared_slice_known-1) (next (goal.at.loop-i-preserved c).In-loop-i).lies n in
-    lay_turn (keeps peer a.new_indexes.now) l.invariant (omega (arith, c.loop-i-test.true)) c.requires.roomy n (ap (leb 65535) c.new_index-gone.ensures)
-    x.0 x.1 (x.2 ∙ ap (laid a.lays l.out l.s.end) y) (omega arith) refl (omega arith)
-
-pub shape_of-out : goal.shape_of-out
-shape_of-out c = c.loop-i.invariant.long
+pub loop-new-preserved : goal.loop-new-preserved
+loop-new-preserved c =
+    let l = c.loop-new in
+    let h = (goal.at.loop-new-preserved c).In-loop-new in
+    let v = keeps peer c.args.new_indexes.now in
+    let e = c.peer_end-next.ensures.1 (lies h) in
+    let s : c.peer_end-next.result - l.at ≡ length (join (item peer (drop l.at c.args.m.now))) = omega (arith, e.0) in
+    let o = item-octets peer (drop l.at c.args.m.now) (octets-drop _ _ (octets h)) (lies h) in
+    elim c.if-stays.branch [
+      | then-stays w ↦ lay_stays v l.invariant (more h) c.requires.roomy s (omega (arith, w.at-is, e.0)) (omega arith) (lt-leb 65535 _ (omega (arith, new h, w.if-stays.true)))
+          w.kept-is w.end-is (w.out-is ∙ w.lay_peer.ensures ∙ ap (laid c.args.lays l.out l.end) (rw s o))
+      | else-stays w ↦ lay_goes v l.invariant (more h) c.requires.roomy s (omega (arith, w.at-is, e.0)) (omega arith) (le-leb 65535 _ (omega (arith, new h, w.if-stays.false)))
+          w.kept-is w.end-is w.out-is
+    ]
 
 pub returns : goal.returns
-returns c =
-    let l = c.loop-i in
-    let a = c.args in
-    lay_done (keeps peer a.new_indexes.now) l.invariant (omega (arith, c.loop-i-test.false))
+returns c = lay_done (keeps peer c.args.new_indexes.now) c.loop-new.invariant (omega (arith, c.loop-new-test.false, length-take c.args.count c.args.new_indexes.now, c.requires.count_bound.0))

@@ -1,9 +1,5 @@
 -- `cut_lay::lay_rib` meets its contract: nothing is laid of a record that lost all its entries.
-use mathlib.Core.Path.{refl, sym, ap, ◌∙◌}
-use mathlib.Core.List.{List}
-use Prim.Native.Nat.{ℕ, ◌+◌, ◌-◌}
-use native.Mathlib.Omega.{arith}
-use lib.ListN.{drop}
+use Rattle.std.proofs.Common.{refl, sym, ap, ◌∙◌, List, ℕ, ◌+◌, ◌-◌, drop, arith}
 use Rattle.form_spec.specs.Body.{joins}
 use Rattle.page_spec.specs.Rib.{entry}
 use Rattle.form_spec.specs.Found.{items}
@@ -12,46 +8,46 @@ use Rattle.cut_spec.specs.One.{items_left}
 use Rattle.cut_spec.specs.Laid.{laid}
 use Rattle.cut_laws.proofs.Laid.{laid_nothing}
 use Rattle.cut_lay.proofs.Laws.{items-room, front-room, laid-items, some_left, rib-stays, rib_goes}
-use borrow.Author.Rules.{rules}
 use Rattle.cut_lay.proofs.lay_rib.Goals.{Start}
 use Rattle.cut_lay.proofs.lay_rib.Goals as goal
 
 -- the entries that stay, and the record with them
 abbrev its : (c : Start) → List (List (List ℕ))
-its c =
-    let a = c.args in moved a.new_indexes.now (items (entry a.peers) a.count (drop (a.at + a.off) a.d.now))
+its c = let a = c.args in moved a.new_indexes.now (items (entry a.peers) a.count (drop (a.at + a.off) a.d.now))
 
 abbrev all : (c : Start) → List ℕ
-all c =
-    let a = c.args in items_left a.d.now a.at (a.off - 14) (its c)
+all c = let a = c.args in items_left a.d.now a.at (a.off - 14) (its c)
 
-pub overflow_add-from : goal.overflow_add-from
-overflow_add-from c = let p = c.requires.le_off in search rules
-
-pub overflow_add-room : goal.overflow_add-room
-overflow_add-room c = search rules
-
-pub lay_entries-items-requires : goal.lay_entries-items-requires
-lay_entries-items-requires c = let a = c.args in record { lie = c.requires.le_off.2; put_le_from = omega (arith, c.requires.put_le_at); roomy = λ q h. items-room a.d.now a.at a.off (its (goal.at.lay_entries-items-requires c).Start) c.requires.le_off.0 c.requires.le_off.1 a.lays a.out.now a.put (rw (some_left a.count (its (goal.at.lay_entries-items-requires c).Start) (all (goal.at.lay_entries-items-requires c).Start) h) at c.requires.room) q }
-
-pub lay_front-requires : goal.lay_front-requires
-lay_front-requires c =
+pub lay_entries-items-requires-clause-roomy : goal.lay_entries-items-requires-clause-roomy
+lay_entries-items-requires-clause-roomy c =
     let a = c.args in
-    let e = c.lay_entries-items.ensures in
-    let z = rib-stays a.count (its (goal.at.lay_front-requires c).Start) (all (goal.at.lay_front-requires c).Start) c.remains.ensures e.0 c.if-remains.true in
-    let s = c.requires.le_off.0 in record { at_bound = (omega arith, omega (arith, c.requires.le_off.1), c.requires.put_le_at, omega (arith, e.1)); room = front-room a.d.now a.at a.off (its (goal.at.lay_front-requires c).Start) c.requires.le_off.0 c.requires.le_off.1 a.lays a.out.now a.put (rw z at c.requires.room) e.2 e.0 e.1 refl }
+    let p = c.requires.le_off in
+    let s = (goal.at.lay_entries-items-requires-clause-roomy c).Start in
+    λ q h. items-room a.d.now a.at a.off (its s) p.0 p.1 a.lays a.out.now a.put (rw (some_left a.count (its s) (all s) h) at c.requires.room) q
 
-pub returns-then-remains : goal.returns-then-remains
-returns-then-remains c =
+pub lay_front-requires-clause-room : goal.lay_front-requires-clause-room
+lay_front-requires-clause-room c =
     let a = c.args in
+    let p = c.requires.le_off in
+    let s = (goal.at.lay_front-requires-clause-room c).Start in
     let e = c.lay_entries-items.ensures in
-    let z = rib-stays a.count (its (goal.at.returns-then-remains c).Start) (all (goal.at.returns-then-remains c).Start) c.remains.ensures e.0 c.if-remains.true in
-    rw z (laid-items a.d.now a.at a.off (its (goal.at.returns-then-remains c).Start) c.requires.le_off.0 c.requires.le_off.1 a.lays a.out.now a.put (rw z at c.requires.room) e.2 e.0 e.1 refl c.lay_front.ensures)
+    let z = rib-stays a.count (its s) (all s) c.remains.ensures e.0 c.if-not-remains.false in
+    front-room a.d.now a.at a.off (its s) p.0 p.1 a.lays a.out.now a.put (rw z at c.requires.room) e.2 e.0 e.1 refl
+
+pub returns-then-not-remains : goal.returns-then-not-remains
+returns-then-not-remains c =
+    let a = c.args in
+    let s = (goal.at.returns-then-not-remains c).Start in
+    let e = c.lay_entries-items.ensures in
+    let z = rib_goes a.count (its s) (all s) c.remains.ensures e.0 c.if-not-remains.true in
+    rw z.0
+    (omega arith, e.2 ∙ ap (λ (js : List (List (List ℕ))). laid a.lays a.out.now (a.put + a.off) (joins js)) z.1 ∙ laid_nothing a.lays a.out.now (a.put + a.off) ∙ sym (laid_nothing a.lays a.out.now a.put))
 
 pub returns : goal.returns
 returns c =
     let a = c.args in
+    let p = c.requires.le_off in
+    let s = (goal.at.returns c).Start in
     let e = c.lay_entries-items.ensures in
-    let z = rib_goes a.count (its (goal.at.returns c).Start) (all (goal.at.returns c).Start) c.remains.ensures e.0 c.if-remains.false in
-    rw z.0
-    (omega arith, e.2 ∙ ap (λ (js : List (List (List ℕ))). laid a.lays a.out.now (a.put + a.off) (joins js)) z.1 ∙ laid_nothing a.lays a.out.now (a.put + a.off) ∙ sym (laid_nothing a.lays a.out.now a.put))
+    let z = rib-stays a.count (its s) (all s) c.remains.ensures e.0 c.if-not-remains.false in
+    rw z (laid-items a.d.now a.at a.off (its s) p.0 p.1 a.lays a.out.now a.put (rw z at c.requires.room) e.2 e.0 e.1 refl c.lay_front.ensures)

@@ -1,13 +1,6 @@
-use mathlib.Core.Path.{◌≡◌}
-use mathlib.Core.Bool.{◌||◌}
-use Prim.Native.Nat.{◌-◌}
-use lib.ListN.{length, drop}
+use Rattle.std.proofs.Common.{◌≡◌, take}
 use Rattle.cut_spec.specs.Cut.{mem}
 use Rattle.mutes.proofs.among.Given as goal
 
--- `mutes::among` meets its contract: the number was among those up to i, or is among the others, where it is among all.
-abbrev pub invariant-loop-i : goal.invariant-loop-i
-invariant-loop-i l = (l.hit || mem l.number (drop l.i l.mutes)) ≡ mem l.number (drop l.from l.mutes)
-
-abbrev pub decreases-loop-i : goal.decreases-loop-i
-decreases-loop-i l = length l.mutes - l.i
+abbrev pub invariant-loop-other : goal.invariant-loop-other
+invariant-loop-other l = l.hit ≡ mem l.number (take l.other-index l.others)
