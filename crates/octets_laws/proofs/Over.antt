@@ -4,7 +4,7 @@ use mathlib.Core.List.{List, [], ◌∷◌, ◌++◌, append_assoc}
 use Prim.Native.Nat.{ℕ, zero, suc, ◌+◌, ◌-◌, ◌≤◌, ◌<◌}
 use native.Mathlib.Omega.{arith}
 use lib.ListN.{length, take, drop, set, length-append, length-take, length-drop, take-append-drop, drop_of_length-le}
-use lib.Seq.{take_all, drop-drop, length-take-le, take_at, drop_at, set_split}
+use lib.Seq.{paste, take_all, drop-drop, length-take-le, take_at, drop_at, set_split}
 use Rattle.octets_spec.specs.Over.{over}
 
 -- the length stays
@@ -36,6 +36,11 @@ over_none out at h = let e : at + 0 ≡ at = omega arith in rw e (take-drop at o
 pub over_one : (out : List ℕ) (at x : ℕ) → at < length out → set out at x ≡ over out at (x ∷ [])
 unfolding over
 over_one out at x h = let e : at + 1 ≡ suc at = omega arith in set_split out at x h ∙ rw e
+
+-- what the copying loop has done
+pub over_paste : (out : List ℕ) (at : ℕ) (s : List ℕ) (n : ℕ) → n ≤ length s → paste out at s n ≡ over out at (take n s)
+unfolding over
+over_paste out at s n h = rw (length-take-le n s h) (append_assoc (take at out) (take n s) (drop (at + n) out))
 
 -- a part that m does not have whole
 pub past_end : (m : List ℕ) (at n : ℕ) → length m ≤ at → take 0 (drop (length m) m) ≡ take n (drop at m)
