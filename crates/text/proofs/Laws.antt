@@ -1,18 +1,17 @@
 -- Text, an octet and a sequence at a time.
 use mathlib.Core.Path.{◌≡◌, refl, sym, ◌∙◌}
 use mathlib.Core.Bool.{Bool, true, false}
-use mathlib.Core.List.{List, [], ◌∷◌, ◌++◌}
+use mathlib.Core.List.{List, [], ◌∷◌}
 use mathlib.Core.Logic.{inl}
 use Prim.Native.Nat.{ℕ, suc, ◌+◌, ◌≤◌, ◌<◌}
 use native.Mathlib.Omega.{arith}
 use denote.Ref.{Bor}
 use lib.Dec.{eqb, leb}
 use lib.ListN.{length, get_or}
-use Rattle.std.specs.Prelude.{Option, Some, None, IsNone}
+use Rattle.std.specs.Prelude.{Option, Some, None}
 use Rattle.form_spec.specs.Words.{choose}
-use Rattle.text_spec.specs.Check.{ones, start_of, started, goes_on, is_text}
+use Rattle.text_spec.specs.Check.{ones, start_of, goes_on, is_text}
 use Rattle.text_spec.specs.declared.Start.{Start}
-use Rattle.text_laws.proofs.Behind.{idle}
 use Rattle.text_laws.proofs.Sequence.{form_over}
 use Rattle.text.specs.Behind.{Behind, Leaves}
 

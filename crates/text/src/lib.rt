@@ -37,10 +37,26 @@ fn start_of(x: u8) -> Option<Start>
     ensures { result ≡ start_of x }
 {
     match u8::leading_zeros(255 - x) {
-        0 => Some(Start { more: 0, low: 128, high: 191 }),
-        2 if 194 <= x => Some(Start { more: 1, low: 128, high: 191 }),
-        3 => Some(Start { more: 2, low: least_second(x), high: most_second(x) }),
-        4 if x <= 244 => Some(Start { more: 3, low: least_second(x), high: most_second(x) }),
+        0 => Some(Start {
+            more: 0,
+            low: 128,
+            high: 191,
+        }),
+        2 if 194 <= x => Some(Start {
+            more: 1,
+            low: 128,
+            high: 191,
+        }),
+        3 => Some(Start {
+            more: 2,
+            low: least_second(x),
+            high: most_second(x),
+        }),
+        4 if x <= 244 => Some(Start {
+            more: 3,
+            low: least_second(x),
+            high: most_second(x),
+        }),
         _ => None,
     }
 }
@@ -51,7 +67,11 @@ fn one_more(m: &[u8], low: u8, high: u8) -> Option<&[u8]>
     ensures { Behind m.now 1 low high result }
 {
     let (x, rest) = m.split_first()?;
-    if low <= *x && *x <= high { Some(rest) } else { None }
+    if low <= *x && *x <= high {
+        Some(rest)
+    } else {
+        None
+    }
 }
 
 // Behind two more, the first of them from `low` to `high`.

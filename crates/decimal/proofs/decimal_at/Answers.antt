@@ -17,6 +17,6 @@ returns c =
     let first = c.in_ok-digit_at.ensures.2 in
     c.valued_at.ensures
     ∙ elim c.else-branch-eq0.branch [
-      else-branch-eq0-via-then-branch-eq0+else-is_some w ↦ number_alone _ _ _ _ first _ w.digit_at-then-branch-eq0.ensures w.if-is_some.ensures
-    | else-branch-eq0-via-else-branch-eq0 w ↦ number_leads _ _ _ _ _ first (omega (arith, w.if-branch-eq0.false))
+      | else-branch-eq0-via-then-branch-eq0+else-is_some w ↦ number_alone _ _ _ _ first _ w.digit_at-then-branch-eq0.ensures w.if-is_some.ensures
+      | else-branch-eq0-via-else-branch-eq0 w ↦ number_leads _ _ _ _ _ first (omega (arith, w.if-branch-eq0.false))
     ]

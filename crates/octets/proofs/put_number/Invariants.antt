@@ -1,5 +1,5 @@
 -- What is left to lay makes the buffer what it shall be.
-use Rattle.std.proofs.Common.{◌≡◌, length}
+use Rattle.std.proofs.Common.{◌≡◌}
 use Rattle.form_spec.specs.Octets.{to_be}
 use Rattle.octets_spec.specs.Over.{over}
 use Rattle.octets.proofs.put_number.Given as goal
