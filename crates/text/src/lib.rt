@@ -32,33 +32,20 @@ fn most_second(x: u8) -> u8
 }
 
 // What a sequence's first octet tells: its leading one bits are the leading zeros of its complement.
-#[tactic(auto, unfolding(text_spec::specs::Check::start_of, form_spec::specs::Words::choose))]
+#[tactic(auto, using(crate::proofs::Laws::any_next), unfolding(text_spec::specs::Check::start_of, form_spec::specs::Words::choose))]
 fn start_of(x: u8) -> Option<Start>
     ensures { result ≡ start_of x }
 {
-    match u8::leading_zeros(255 - x) {
-        0 => Some(Start {
-            more: 0,
-            low: 128,
-            high: 191,
-        }),
-        2 if 194 <= x => Some(Start {
-            more: 1,
-            low: 128,
-            high: 191,
-        }),
-        3 => Some(Start {
-            more: 2,
-            low: least_second(x),
-            high: most_second(x),
-        }),
-        4 if x <= 244 => Some(Start {
-            more: 3,
-            low: least_second(x),
-            high: most_second(x),
-        }),
-        _ => None,
-    }
+    let more = match u8::leading_zeros(255 - x) {
+        0 => 0,
+        2 if 194 <= x => 1,
+        3 => 2,
+        4 if x <= 244 => 3,
+        _ => return None,
+    };
+    let low = least_second(x);
+    let high = most_second(x);
+    Some(Start { more, low, high })
 }
 
 // What stands behind one more octet of a sequence, which lies from `low` to `high`.
