@@ -2,7 +2,7 @@
 // message, read where they are there, and judged before they are written.
 #![tactic(auto)]
 
-ghost use Rattle.std.specs.Prelude.{◌≡◌, ◌+◌, ◌-◌, ◌≤◌, ◌<◌, ◌^◌, length, take, drop, leb};
+ghost use Rattle.std.specs.Prelude.{◌≡◌, ◌+◌, ◌-◌, ◌≤◌, ◌<◌, ◌^◌, length, leb};
 ghost use Rattle.octets_spec.specs.Over.{over};
 ghost use Rattle.octets_spec.specs.Lent.{PartOf};
 ghost use Rattle.form_spec.specs.Octets.{to_be};
