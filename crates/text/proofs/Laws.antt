@@ -6,33 +6,16 @@ use mathlib.Core.Logic.{inl}
 use Prim.Native.Nat.{ℕ, suc, ◌+◌, ◌≤◌, ◌<◌}
 use native.Mathlib.Omega.{arith}
 use denote.Ref.{Bor}
-use lib.Count.{count_leading_zeros}
-use borrow.Author.Tests.{eqb-true}
 use lib.Dec.{eqb, leb}
 use lib.ListN.{length, get_or}
 use Rattle.std.specs.Prelude.{Option, Some, None}
 use Rattle.form_spec.specs.Words.{choose}
-use Rattle.text_spec.specs.Check.{ones, least, most, start_of, goes_on, is_text}
+use Rattle.text_spec.specs.Check.{ones, start_of, goes_on, is_text}
 use Rattle.text_spec.specs.declared.Start.{Start}
 use Rattle.text_laws.proofs.Sequence.{form_over}
 use Rattle.text.specs.Behind.{Behind, Leaves}
 
 -- ---- what a first octet tells
-
--- where the sequence has one octet or two, the second octet's range is not narrowed
-pub any_next : (x : ℕ) → ones x < 3 → (least x ≡ 128) × (most x ≡ 191)
-unfolding least most choose count_leading_zeros
-any_next x h = (go (eqb x 224) refl (eqb x 240) refl, on (eqb x 237) refl (eqb x 244) refl)
-  where
-    go : (a : Bool) → eqb x 224 ≡ a → (b : Bool) → eqb x 240 ≡ b → choose {A = ℕ} a 160 (choose b 144 128) ≡ 128
-    go true p b q = let z : x ≡ 224 = eqb-true x 224 p in absurd (omega (arith, rw z at h))
-    go false p true q = let z : x ≡ 240 = eqb-true x 240 q in absurd (omega (arith, rw z at h))
-    go false p false q = refl
-
-    on : (a : Bool) → eqb x 237 ≡ a → (b : Bool) → eqb x 244 ≡ b → choose {A = ℕ} a 159 (choose b 143 191) ≡ 191
-    on true p b q = let z : x ≡ 237 = eqb-true x 237 p in absurd (omega (arith, rw z at h))
-    on false p true q = let z : x ≡ 244 = eqb-true x 244 q in absurd (omega (arith, rw z at h))
-    on false p false q = refl
 
 -- no sequence has more than three behind its first
 abbrev Few : Option Start → Type 0
