@@ -7,7 +7,7 @@ ghost use Rattle.decimal_spec.specs.Decimal.{decimal};
 ghost use Rattle.decimal_spec.specs.Reading.{run, valued, decimal_at};
 ghost use Rattle.decimal.specs.Digit.{DigitAt};
 
-// Lays n's digits over out, from `at` on; answers where they end.
+// Lays n's digits over out, from `at` on; answers where they end. It calls itself, since a loop would first have to count the digits.
 pub fn put_decimal(out: &mut [u8], at: usize, n: u64) -> usize
     requires { at + length (decimal n) ≤ length out.old }
     ensures { (result ≡ at + length (decimal n)) × (out.new ≡ over out.old at (decimal n)) }
