@@ -12,7 +12,7 @@ use Rattle.form_spec.specs.Words.{choose}
 use Rattle.form_laws.proofs.Range.{inside, below, above, bounds}
 use Rattle.decimal_spec.specs.Decimal.{digit, decimal, Digits}
 use Rattle.decimal_spec.specs.Reading.{is_digit, run, value_from, value, canonical, valued, decimal_at}
-use Rattle.decimal_spec.specs.declared.Number.TheVariants.{Value, Bad}
+use Rattle.std.specs.Prelude.{Option, Some, None}
 use Rattle.decimal_laws.proofs.Decimal.{decimal_small, decimal_step, by_digits}
 
 -- ---- digits
@@ -151,7 +151,7 @@ canonical-decimal (d ∷ x ∷ ds) p e =
 
 -- a number's text, and behind it no digit, is read as that number
 pub reads_back : (most : ℕ) (s : List ℕ) (at n : ℕ) (rest : List ℕ) → n ≤ most → drop at s ≡ decimal n ++ rest → run rest ≡ []
-    → decimal_at most s at ≡ Value n (at + length (decimal n))
+    → decimal_at most s at ≡ Some (n, at + length (decimal n))
 unfolding decimal_at valued choose
 reads_back most s at n rest h e a =
     let z : run (drop at s) ≡ decimal n = rw e (run-digits (decimal n) rest (decimal-digits n) a) in
@@ -165,18 +165,20 @@ pub record Text (most : ℕ) (s : List ℕ) (at n end : ℕ) : Type 0 where
   pub apart : run rest ≡ []
   pub ends : end ≡ at + length (decimal n)
 
-pub is_text_lem : (most : ℕ) (s : List ℕ) (at n end : ℕ) → decimal_at most s at ≡ Value n end → Text most s at n end
+pub is_text_lem : (most : ℕ) (s : List ℕ) (at n end : ℕ) → decimal_at most s at ≡ Some (n, end) → Text most s at n end
 unfolding decimal_at valued choose
 is_text_lem most s at n end e = go (canonical ds) refl (leb (value ds) most) refl e
   where
     ds : List ℕ
     ds = run (drop at s)
 
-    go : (a : Bool) → canonical ds ≡ a → (b : Bool) → leb (value ds) most ≡ b → choose a (choose b (Value (value ds) (at + length ds)) Bad) Bad ≡ Value n end → Text most s at n end
+    go : (a : Bool) → canonical ds ≡ a → (b : Bool) → leb (value ds) most ≡ b → choose {A = Option (ℕ × ℕ)} a (choose b (Some (value ds, at + length ds)) None) None ≡ Some (n, end) → Text most s at n end
     go true p true q h =
-        let v : value ds ≡ n = cc in
+        let z : ◌≡◌ {A = ℕ × ℕ} (value ds, at + length ds) (n, end) = cc in
+        let v : value ds ≡ n = ap (λ (x : ℕ × ℕ). x.0) z in
+        let w : at + length ds ≡ end = ap (λ (x : ℕ × ℕ). x.1) z in
         let k = run-front (drop at s) in
         let t : decimal n ≡ ds = rw (← v) (canonical-decimal ds k.digits p) in
-        record { small = rw v at (leb-true (value ds) most q); rest = k.rest; whole = rw t k.whole; apart = k.apart; ends = rw t (cc) }
+        record { small = rw v at (leb-true (value ds) most q); rest = k.rest; whole = rw t k.whole; apart = k.apart; ends = rw t (sym w) }
     go true p false q h = let z : ◌≡◌ {A = ℕ} 0 1 = cc in absurd (omega arith)
     go false p b q h = let z : ◌≡◌ {A = ℕ} 0 1 = cc in absurd (omega arith)

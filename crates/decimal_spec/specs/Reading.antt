@@ -1,8 +1,6 @@
 -- Reading a decimal number: only the text that `decimal` gives is one.
-use Rattle.std.specs.Prelude.{Bool, true, false, cond, List, [], ◌∷◌, ℕ, ◌+◌, ◌-◌, ◌*◌, ltb, leb, length, drop}
+use Rattle.std.specs.Prelude.{Bool, true, false, cond, Option, Some, None, List, [], ◌∷◌, ℕ, ◌+◌, ◌-◌, ◌*◌, ltb, leb, length, drop}
 use Rattle.form_spec.specs.Words.{choose, in_range}
-use Rattle.decimal_spec.specs.declared.Number.{Number}
-use Rattle.decimal_spec.specs.declared.Number.TheVariants.{Value, Bad}
 
 abbrev pub is_digit : ℕ → Bool
 is_digit x = in_range 48 x 57
@@ -26,10 +24,10 @@ canonical [] = false
 canonical (d ∷ []) = true
 canonical (d ∷ e ∷ ds) = ltb 48 d
 
--- the number that the digits ds at offset at are, if it is at most `most`
-unfoldable pub valued : (most at : ℕ) (ds : List ℕ) → Number
-valued most at ds = choose (leb (value ds) most) (Value (value ds) (at + length ds)) Bad
+-- the number that the digits ds at offset at are, if it is at most `most`, and the offset behind them
+unfoldable pub valued : (most at : ℕ) (ds : List ℕ) → Option (ℕ × ℕ)
+valued most at ds = choose (leb (value ds) most) (Some (value ds, at + length ds)) None
 
--- the number at offset at of s
-unfoldable pub decimal_at : (most : ℕ) (s : List ℕ) (at : ℕ) → Number
-decimal_at most s at = let ds = run (drop at s) in choose (canonical ds) (valued most at ds) Bad
+-- the number at offset at of s, and the offset behind it
+unfoldable pub decimal_at : (most : ℕ) (s : List ℕ) (at : ℕ) → Option (ℕ × ℕ)
+decimal_at most s at = let ds = run (drop at s) in choose (canonical ds) (valued most at ds) None

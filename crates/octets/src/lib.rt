@@ -2,7 +2,7 @@
 // message, read where they are there, and judged before they are written.
 #![tactic(auto)]
 
-ghost use Rattle.std.specs.Prelude.{◌≡◌, ◌+◌, ◌-◌, ◌≤◌, ◌<◌, ◌^◌, length, take, drop, leb};
+ghost use Rattle.std.specs.Prelude.{◌≡◌, ◌+◌, ◌-◌, ◌≤◌, ◌<◌, ◌^◌, length, leb};
 ghost use Rattle.octets_spec.specs.Over.{over};
 ghost use Rattle.octets_spec.specs.Lent.{PartOf};
 ghost use Rattle.form_spec.specs.Octets.{to_be};
@@ -11,25 +11,12 @@ ghost use Rattle.octets_spec.specs.Field.{field_at, room_at};
 
 use form_spec::Fault;
 
-// Lays src's n octets from `from` on over out, from `at` on.
-pub fn copy(src: &[u8], from: usize, n: usize, out: &mut [u8], at: usize)
-    requires n_in_bounds { from + n ≤ length src.now }
-    requires n_in_bounds_2 { at + n ≤ length out.old }
-    ensures { out.new ≡ over out.old at (take n (drop from src.now)) }
-{
-    let mut i = 0;
-    while i < n {
-        out[at + i] = src[from + i];
-        i += 1;
-    }
-}
-
 // Lays all of src over out, from `at` on.
 pub fn put_bytes(src: &[u8], out: &mut [u8], at: usize)
     requires { at + length src.now ≤ length out.old }
     ensures { out.new ≡ over out.old at src.now }
 {
-    copy(src, 0, src.len(), out, at)
+    out[at..at + src.len()].copy_from_slice(src);
 }
 
 // The n octets of m from `at` on; fewer where m ends before.
@@ -47,23 +34,15 @@ pub fn part(m: &[u8], at: usize, n: usize) -> &[u8]
     &m[at..end]
 }
 
-fn wide(x: u8) -> u64
-    ensures { (result ≡ x) × (result < 256) }
-{
-    x as u64
-}
-
 // The number in the width octets at `at`. The loop becomes one load where the width is known.
 pub fn number(s: &[u8], at: usize, width: usize) -> u64
     requires width_bound { width ≤ 8 }
     requires width_in_bounds { at + width ≤ length s.now }
     ensures { (result ≡ num_at s.now at width) × (result < 256 ^ width) }
 {
-    let mut v: u64 = 0;
-    let mut i = 0;
-    while i < width {
-        v = v * 256 + wide(s[at + i]);
-        i += 1;
+    let mut v = 0;
+    for x in &s[at..at + width] {
+        v = v * 256 + u64::from(*x);
     }
     v
 }
@@ -73,12 +52,10 @@ pub fn put_number(out: &mut [u8], at: usize, width: usize, v: u64)
     requires { at + width ≤ length out.old }
     ensures { out.new ≡ over out.old at (to_be width v) }
 {
-    let mut i = width;
     let mut rest = v;
-    while 0 < i {
-        i -= 1;
+    for i in (0..width).rev() {
         out[at + i] = (rest % 256) as u8;
-        rest = rest / 256;
+        rest /= 256;
     }
 }
 
@@ -115,11 +92,5 @@ pub fn large(v: u64, width: usize) -> bool
     requires { width ≤ 4 }
     ensures { result ≡ leb (256 ^ width) v }
 {
-    let mut most: u64 = 1;
-    let mut i = 0;
-    while i < width {
-        most = most * 256;
-        i += 1;
-    }
-    most <= v
+    256u64.pow(width as u32) <= v
 }

@@ -1,13 +1,14 @@
 -- Numbers read and written, once over the width.
 use mathlib.Core.Path.{◌≡◌, refl, sym, ap, ◌∙◌}
 use mathlib.Core.List.{List, [], ◌∷◌, ◌++◌}
-use Prim.Native.Nat.{ℕ, suc, ◌+◌, ◌*◌, ◌/◌, ◌%◌, ◌^◌, ◌≤◌, ◌<◌}
+use Prim.Native.Nat.{ℕ, suc, ◌+◌, ◌*◌, ◌-◌, ◌/◌, ◌%◌, ◌^◌, ◌≤◌, ◌<◌}
 use native.Mathlib.Numerals.{add-one}
 use native.Mathlib.Omega.{arith}
 use native.Mathlib.Nat.{lt_of_lt_of_le, pow-le-pow_right, le_refl}
 use lib.Dec.{lit<}
 use lib.ListN.{length, take, drop, get_or, set, length-drop, length-set, length-append, take-append-drop}
-use lib.Seq.{take-suc, get_or-drop, take-set-le, drop-cons, get_or-set_same, drop-set-lt, append_snoc}
+use Rattle.std.proofs.lemmas.List.{get_or-take}
+use lib.Seq.{length-take-le, take-suc, get_or-drop, take-set-le, drop-cons, get_or-set_same, drop-set-lt, append_snoc}
 use Rattle.form_spec.specs.Octets.{be, to_be}
 use Rattle.form_laws.proofs.Octets.{be_snoc, length-to_be}
 use Rattle.octets_spec.specs.Over.{over}
@@ -22,6 +23,13 @@ unfolding num_at
 num_at_more s at w h =
     let k : w < length (drop at s) = simp length-drop (omega arith) in
     rw (add-one, take-suc (drop at s) w 0, get_or-drop) (be_snoc (take w (drop at s)) (get_or s (at + w) 0))
+
+-- the same where the octet x is read from the w octets at `at`
+pub num_at_next : (s : List ℕ) (at w i v x : ℕ) → at + w ≤ length s → i < length (take (at + w - at) (drop at s)) → v ≡ num_at s at i → x ≡ get_or (take (at + w - at) (drop at s)) i 0 → v * 256 + x ≡ num_at s at (i + 1)
+num_at_next s at w i v x h l p q =
+    let k : length (take (at + w - at) (drop at s)) ≡ at + w - at = length-take-le _ _ (simp length-drop (omega arith)) in
+    let t : x ≡ get_or s (at + i) 0 = rw (get_or-take (at + w - at) (drop at s) i 0 (omega arith), get_or-drop) at q in
+    rw (p, t) (sym (num_at_more s at i (omega arith)))
 
 -- an octet after a number of i octets makes one of i + 1
 pub digit : (v i x : ℕ) → v < 256 ^ i → x < 256 → v * 256 + x < 256 ^ (i + 1)

@@ -1,10 +1,10 @@
 -- Laws of `over`: what follows is laid behind what was laid before.
-use mathlib.Core.Path.{◌≡◌, refl, sym, ap, ◌∙◌}
+use mathlib.Core.Path.{◌≡◌, sym, ap, ◌∙◌}
 use mathlib.Core.List.{List, [], ◌∷◌, ◌++◌, append_assoc}
-use Prim.Native.Nat.{ℕ, zero, suc, ◌+◌, ◌-◌, ◌≤◌, ◌<◌}
+use Prim.Native.Nat.{ℕ, suc, ◌+◌, ◌≤◌, ◌<◌}
 use native.Mathlib.Omega.{arith}
-use lib.ListN.{length, take, drop, set, length-append, length-take, length-drop, take-append-drop, drop_of_length-le}
-use lib.Seq.{paste, take_all, drop-drop, length-take-le, take_at, drop_at, set_split}
+use lib.ListN.{length, take, drop, set, length-append, length-take, length-drop, take-append-drop}
+use lib.Seq.{paste, drop-drop, length-take-le, take_at, drop_at, set_split}
 use Rattle.octets_spec.specs.Over.{over}
 
 -- the length stays
@@ -41,22 +41,6 @@ over_one out at x h = let e : at + 1 ≡ suc at = omega arith in set_split out a
 pub over_paste : (out : List ℕ) (at : ℕ) (s : List ℕ) (n : ℕ) → n ≤ length s → paste out at s n ≡ over out at (take n s)
 unfolding over
 over_paste out at s n h = rw (length-take-le n s h) (append_assoc (take at out) (take n s) (drop (at + n) out))
-
--- a part that m does not have whole
-pub past_end : (m : List ℕ) (at n : ℕ) → length m ≤ at → take 0 (drop (length m) m) ≡ take n (drop at m)
-past_end m at n h =
-    let e : drop at m ≡ [] = drop_of_length-le m h in
-    sym (ap (take n) e ∙ take_none n)
-  where
-    take_none : (n : ℕ) → ◌≡◌ {A = List ℕ} (take n []) []
-    take_none zero = refl
-    take_none (suc n) = refl
-
-pub to_end : (m : List ℕ) (at n : ℕ) → length m - at ≤ n → take (length m - at) (drop at m) ≡ take n (drop at m)
-to_end m at n h =
-    let k : length (drop at m) ≤ length m - at = simp length-drop (omega arith) in
-    let l : length (drop at m) ≤ n = simp length-drop h in
-    take_all (length m - at) (drop at m) k ∙ sym (take_all n (drop at m) l)
 
 -- one store more: s goes where p ends
 pub more : (out p s l k : List ℕ) (at i : ℕ) → l ≡ over out at p → k ≡ over l i s → i ≡ at + length p → at + (length p + length s) ≤ length out → k ≡ over out at (p ++ s)

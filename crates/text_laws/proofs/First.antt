@@ -11,9 +11,9 @@ use lib.Count.{count_leading_zeros}
 use borrow.Author.Tests.{eqb-true}
 use Rattle.form_spec.specs.Words.{choose, in_range}
 use Rattle.text_spec.specs.declared.Start.{Start}
-use Rattle.text_spec.specs.declared.Start.TheVariants.{Then, Bad}
+use Rattle.std.specs.Prelude.{Option, Some, None}
 use Rattle.text_spec.specs.Grammar.{Range, to, tails, forms, Row, OneOf}
-use Rattle.text_spec.specs.Check.{least, most, start_of}
+use Rattle.text_spec.specs.Check.{least, most, follow, start_of}
 use Rattle.form_laws.proofs.Range.{bounds, up_to}
 use Rattle.text_laws.proofs.Behind.{behind}
 use Rattle.text_laws.proofs.Finite.{both, left, right, below, at}
@@ -28,8 +28,8 @@ pub record Lead : Type 0 where
 abbrev pub row : Lead → List Range
 row l = l.first ∷ behind l.more l.next
 
-abbrev pub says : Lead → Start
-says l = Then l.more l.next.low l.next.high
+abbrev pub says : Lead → Option Start
+says l = follow l.more l.next.low l.next.high
 
 abbrev pub lead_of : List Range → Lead
 lead_of [] = record { first = tails; more = 0; next = tails }
@@ -54,22 +54,23 @@ form_some = some_row leads
 
 -- ---- two answers, compared
 
-abbrev same : Start → Start → Bool
-same (Then n a b) (Then m c d) = both (eqb n m) (both (eqb a c) (eqb b d))
-same (Then n a b) Bad = false
-same Bad (Then m c d) = false
-same Bad Bad = true
+abbrev same : Option Start → Option Start → Bool
+same (Some s) (Some t) = both (eqb s.more t.more) (both (eqb s.low t.low) (eqb s.high t.high))
+same (Some s) None = false
+same None (Some t) = false
+same None None = true
 
-same_true : (s t : Start) → same s t ≡ true → s ≡ t
-same_true (Then n a b) (Then m c d) e =
-    let r = right (eqb n m) (both (eqb a c) (eqb b d)) e in
-    let p : n ≡ m = eqb-true n m (left (eqb n m) (both (eqb a c) (eqb b d)) e) in
-    let q : a ≡ c = eqb-true a c (left (eqb a c) (eqb b d) r) in
-    let s : b ≡ d = eqb-true b d (right (eqb a c) (eqb b d) r) in
-    cc
-same_true (Then n a b) Bad e = cc
-same_true Bad (Then m c d) e = cc
-same_true Bad Bad e = refl
+same_true : (s t : Option Start) → same s t ≡ true → s ≡ t
+same_true (Some s) (Some t) e =
+    let r = right (eqb s.more t.more) (both (eqb s.low t.low) (eqb s.high t.high)) e in
+    let p : s.more ≡ t.more = eqb-true s.more t.more (left (eqb s.more t.more) (both (eqb s.low t.low) (eqb s.high t.high)) e) in
+    let q : s.low ≡ t.low = eqb-true s.low t.low (left (eqb s.low t.low) (eqb s.high t.high) r) in
+    let h : s.high ≡ t.high = eqb-true s.high t.high (right (eqb s.low t.low) (eqb s.high t.high) r) in
+    let f : follow s.more s.low s.high ≡ follow t.more t.low t.high = rw (p, q, h) in
+    f
+same_true (Some s) None e = cc
+same_true None (Some t) e = cc
+same_true None None e = refl
 
 -- ---- an octet that starts a row is answered by that row
 
@@ -96,7 +97,7 @@ agreed l e x p q =
 pub record Answered (x : ℕ) (c : List ℕ) : Type 0 where
   pub more : ℕ
   pub next : Range
-  pub start : start_of x ≡ Then more next.low next.high
+  pub start : start_of x ≡ follow more next.low next.high
   pub others : Row (behind more next) c
 
 answered_in : (ls : List Lead) → all_agree ls ≡ true → (x : ℕ) (c : List ℕ) → OneOf (map row ls) (x ∷ c) → Answered x c
@@ -112,13 +113,13 @@ form_answered = answered_in leads leads_agree
 -- ---- what the check answers, a row has said
 
 -- the octets that such an answer lets follow x make a form with it
-abbrev pub Led : List (List Range) → ℕ → Start → Type 0
-Led fs x (Then n low high) = (c : List ℕ) → Row (behind n (to low high)) c → OneOf fs (x ∷ c)
-Led fs x Bad = Unit
+abbrev pub Led : List (List Range) → ℕ → Option Start → Type 0
+Led fs x (Some s) = (c : List ℕ) → Row (behind s.more (to s.low s.high)) c → OneOf fs (x ∷ c)
+Led fs x None = Unit
 
 -- the first of these rows that the octet may start
-told : List Lead → ℕ → Start
-told [] x = Bad
+told : List Lead → ℕ → Option Start
+told [] x = None
 told (l ∷ ls) x = cond (in_range l.first.low x l.first.high) (says l) (told ls x)
 
 all_told : below (λ (x : ℕ). same (start_of x) (told leads x)) 256 ≡ true
@@ -126,13 +127,13 @@ unfolding told start_of least most choose count_leading_zeros in_range
 all_told = refl
 
 -- no octet
-beyond : (x : ℕ) → 255 < x → start_of x ≡ Bad
+beyond : (x : ℕ) → 255 < x → start_of x ≡ None
 unfolding start_of choose count_leading_zeros
 beyond x h = let z : 255 - x ≡ 0 = omega arith in rw z
 
-led_more : (f : List Range) (fs : List (List Range)) (x : ℕ) (s : Start) → Led fs x s → Led (f ∷ fs) x s
-led_more f fs x (Then n low high) h = λ c r. inr (h c r)
-led_more f fs x Bad h = tt
+led_more : (f : List Range) (fs : List (List Range)) (x : ℕ) (s : Option Start) → Led fs x s → Led (f ∷ fs) x s
+led_more f fs x (Some s) h = λ c r. inr (h c r)
+led_more f fs x None h = tt
 
 told_led : (ls : List Lead) (x : ℕ) → Led (map row ls) x (told ls x)
 unfolding told

@@ -5,7 +5,7 @@ use mathlib.Core.List.{List, [], ◌∷◌, ◌++◌}
 use Prim.Native.Nat.{ℕ}
 use native.Mathlib.Omega.{arith}
 use Rattle.text_spec.specs.declared.Start.{Start}
-use Rattle.text_spec.specs.declared.Start.TheVariants.{Then, Bad}
+use Rattle.std.specs.Prelude.{Option, Some, None}
 use Rattle.text_spec.specs.Grammar.{to, forms, OneOf}
 use Rattle.text_spec.specs.Check.{start_of, started, goes_on, is_text}
 use Rattle.text_laws.proofs.Behind.{goes_over, passed}
@@ -29,8 +29,8 @@ pub form_first : (x : ℕ) (bs : List ℕ) → is_text (x ∷ bs) ≡ true → F
 unfolding goes_on
 form_first x bs e = go (start_of x) (answer_led x) e
   where
-    go : (s : Start) → Led forms x s → started (goes_on bs) s ≡ true → Fronted x bs
-    go (Then n low high) f h =
-        let k = passed n (to low high) bs h in
+    go : (s : Option Start) → Led forms x s → started (goes_on bs) s ≡ true → Fronted x bs
+    go (Some s) f h =
+        let k = passed s.more (to s.low s.high) bs h in
         record { others = k.front; rest = k.rest; whole = k.whole; form = f k.front k.row; good = k.good }
-    go Bad f h = let z : ◌≡◌ {A = ℕ} 0 1 = cc in absurd (omega arith)
+    go None f h = let z : ◌≡◌ {A = ℕ} 0 1 = cc in absurd (omega arith)

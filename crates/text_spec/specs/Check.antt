@@ -1,9 +1,8 @@
 -- The check that goes octet by octet.
-use Rattle.std.specs.Prelude.{Bool, true, false, cond, List, [], ◌∷◌, ℕ, zero, suc, ◌-◌, eqb, leb}
+use Rattle.std.specs.Prelude.{Bool, true, false, cond, Option, Some, None, List, [], ◌∷◌, ℕ, zero, suc, ◌-◌, eqb, leb}
 use Rattle.std.specs.Int.Count.{count_leading_zeros}
 use Rattle.form_spec.specs.Words.{◌$◌, choose, in_range}
 use Rattle.text_spec.specs.declared.Start.{Start}
-use Rattle.text_spec.specs.declared.Start.TheVariants.{Then, Bad}
 
 -- how many leading bits of an octet are one
 abbrev pub ones : ℕ → ℕ
@@ -17,18 +16,22 @@ least x = choose (eqb x 224) 160 $ choose (eqb x 240) 144 128
 unfoldable pub most : ℕ → ℕ
 most x = choose (eqb x 237) 159 $ choose (eqb x 244) 143 191
 
+-- so many more octets belong to the sequence, the next of them from low to high
+abbrev pub follow : (more low high : ℕ) → Option Start
+follow more low high = Some (record { more = more; low = low; high = high })
+
 -- the leading ones of the first octet tell the sequence's length; C0 and C1 start overlong forms alone, F5 to F7 values above U+10FFFF
-unfoldable pub start_of : ℕ → Start
+unfoldable pub start_of : ℕ → Option Start
 start_of x =
-    choose (eqb (ones x) 0) (Then 0 128 191)
-    $ choose (eqb (ones x) 2) (choose (leb 194 x) (Then 1 128 191) Bad)
-    $ choose (eqb (ones x) 3) (Then 2 (least x) (most x))
-    $ choose (eqb (ones x) 4) (choose (leb x 244) (Then 3 (least x) (most x)) Bad) Bad
+    choose (eqb (ones x) 0) (follow 0 128 191)
+    $ choose (eqb (ones x) 2) (choose (leb 194 x) (follow 1 128 191) None)
+    $ choose (eqb (ones x) 3) (follow 2 (least x) (most x))
+    $ choose (eqb (ones x) 4) (choose (leb x 244) (follow 3 (least x) (most x)) None) None
 
 -- what follows a sequence's first octet, told by what that octet says
-abbrev pub started : (ℕ → ℕ → ℕ → Bool) → Start → Bool
-started f (Then more low high) = f more low high
-started f Bad = false
+abbrev pub started : (ℕ → ℕ → ℕ → Bool) → Option Start → Bool
+started f (Some s) = f s.more s.low s.high
+started f None = false
 
 -- so many more octets belong to the sequence at hand, the next of them from low to high; behind them text goes on
 unfoldable pub goes_on : List ℕ → (more low high : ℕ) → Bool

@@ -2,28 +2,21 @@
 use mathlib.Core.Path.{◌∙◌}
 use native.Mathlib.Omega.{arith}
 use Rattle.decimal.proofs.Valued.{number_none, number_leads, number_alone, number_zeros}
+use Rattle.decimal.proofs.decimal_at.Goals.{else-branch-eq0-via-then-branch-eq0+else-is_some, else-branch-eq0-via-else-branch-eq0}
 use Rattle.decimal.proofs.decimal_at.Goals as goal
 
-pub returns-then-first-gt9 : goal.returns-then-first-gt9
-returns-then-first-gt9 c = number_none _ _ _ (c.digit_at-first.ensures.none (omega arith))
+pub returns-in_err-digit_at : goal.returns-in_err-digit_at
+returns-in_err-digit_at c = c.from_residual.ensures ∙ number_none _ _ _ c.in_err-digit_at.ensures
 
-pub returns-then-first-gt0 : goal.returns-then-first-gt0
-returns-then-first-gt0 c =
-    let d = c.digit_at-first.ensures.there (omega arith) in
-    c.valued_at.ensures ∙ number_leads _ _ _ _ _ d.1 (omega arith)
-
-pub overflow_add-at : goal.overflow_add-at
-overflow_add-at c =
-    let d = c.digit_at-first.ensures.there (omega arith) in
-    omega (arith, d.0)
-
-pub returns-then-digit_at-lt10 : goal.returns-then-digit_at-lt10
-returns-then-digit_at-lt10 c =
-    let d = c.digit_at-first.ensures.there (omega arith) in
-    let e = c.digit_at.ensures.there (omega arith) in
-    number_zeros _ _ _ _ _ _ _ d.1 (omega arith) e.1
+pub returns-then-is_some : goal.returns-then-is_some
+returns-then-is_some c =
+    number_zeros _ _ _ _ c.in_ok-digit_at.ensures.2 _ c.digit_at-then-branch-eq0.ensures c.if-is_some.ensures c.if-branch-eq0.true
 
 pub returns : goal.returns
 returns c =
-    let d = c.digit_at-first.ensures.there (omega arith) in
-    c.valued_at-2.ensures ∙ number_alone _ _ _ _ _ d.1 (c.digit_at.ensures.none (omega arith))
+    let first = c.in_ok-digit_at.ensures.2 in
+    c.valued_at.ensures
+    ∙ elim c.else-branch-eq0.branch [
+      | else-branch-eq0-via-then-branch-eq0+else-is_some w ↦ number_alone _ _ _ _ first _ w.digit_at-then-branch-eq0.ensures w.if-is_some.ensures
+      | else-branch-eq0-via-else-branch-eq0 w ↦ number_leads _ _ _ _ _ first (omega (arith, w.if-branch-eq0.false))
+    ]

@@ -1,35 +1,20 @@
 -- `decimal::valued_at` meets its contract.
+use mathlib.Core.Path.{◌∙◌}
 use native.Mathlib.Omega.{arith}
-use Rattle.decimal.proofs.Valued.{starts, done, turn, too_large}
+use Rattle.decimal.proofs.Valued.{done, turn, too_large}
 use Rattle.decimal.proofs.valued_at.Goals as goal
 
-pub loop-at-init : goal.loop-at-init
-loop-at-init c = starts _ _ _
+pub returns-in_err-checked_mul : goal.returns-in_err-checked_mul
+returns-in_err-checked_mul c = c.from_residual.ensures ∙ too_large _ _ _ _ _ c.loop-digit.invariant _ c.in-Some.ensures.2 (omega (arith, c.in_err-checked_mul.ensures))
 
-pub returns-then-d-gt9 : goal.returns-then-d-gt9
-returns-then-d-gt9 c = done _ _ _ _ _ c.loop-at.invariant (c.digit_at-d.ensures.none (omega arith))
+pub returns-in_err-value : goal.returns-in_err-value
+returns-in_err-value c = c.from_residual-in_err-value.ensures ∙ too_large _ _ _ _ _ c.loop-digit.invariant _ c.in-Some.ensures.2 (omega (arith, c.in_ok-checked_mul.ensures, c.in_err-value.ensures))
 
-pub returns-then-most-v : goal.returns-then-most-v
-returns-then-most-v c =
-    let d = c.digit_at-d.ensures.there (omega arith) in
-    too_large _ _ _ _ _ c.loop-at.invariant _ d.1 (omega arith)
+pub returns-then-most-value : goal.returns-then-most-value
+returns-then-most-value c = too_large _ _ _ _ _ c.loop-digit.invariant _ c.in-Some.ensures.2 (omega (arith, c.in_ok-checked_mul.ensures, c.in_ok-value.ensures))
 
-pub returns-then-most-v-2 : goal.returns-then-most-v-2
-returns-then-most-v-2 c =
-    let d = c.digit_at-d.ensures.there (omega arith) in
-    too_large _ _ _ _ _ c.loop-at.invariant _ d.1 (omega arith)
+pub loop-digit-preserved : goal.loop-digit-preserved
+loop-digit-preserved c = turn _ _ _ _ _ c.loop-digit.invariant _ c.in-Some.ensures.2 _ (omega (arith, c.in_ok-checked_mul.ensures, c.in_ok-value.ensures)) (omega arith)
 
-pub overflow_add-i : goal.overflow_add-i
-overflow_add-i c =
-    let d = c.digit_at-d.ensures.there (omega arith) in
-    omega (arith, d.0)
-
-pub loop-at-smaller : goal.loop-at-smaller
-loop-at-smaller c =
-    let d = c.digit_at-d.ensures.there (omega arith) in
-    omega (arith, d.0)
-
-pub loop-at-preserved : goal.loop-at-preserved
-loop-at-preserved c =
-    let d = c.digit_at-d.ensures.there (omega arith) in
-    turn _ _ _ _ _ c.loop-at.invariant _ d.1 (omega arith)
+pub returns : goal.returns
+returns c = done _ _ _ _ _ c.loop-digit.invariant c.in_default.ensures

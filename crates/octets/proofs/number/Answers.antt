@@ -1,27 +1,20 @@
--- `octets::number` meets its contract. The invariant: v is the number in the first i octets.
-use mathlib.Core.Path.{◌≡◌, sym, ap, ◌∙◌}
+-- `octets::number` meets its contract: an octet more at each turn.
+use mathlib.Core.Path.{sym}
 use native.Mathlib.Omega.{arith}
 use borrow.Author.Rules.{rules}
-use Rattle.octets_spec.specs.Be.{num_at}
-use Rattle.octets_laws.proofs.Be.{num_at-zero, num_at_more, digit, digit-fits}
+use Rattle.octets_laws.proofs.Be.{num_at-zero, num_at_next, digit, digit-fits}
 use Rattle.octets.proofs.number.Goals as goal
 
-pub loop-i-init : goal.loop-i-init
-loop-i-init c = (search rules, sym (num_at-zero _ _), search rules)
+pub loop-x-init : goal.loop-x-init
+loop-x-init c = (sym (num_at-zero _ _), search rules)
 
 pub overflow_mul-v : goal.overflow_mul-v
-overflow_mul-v c = omega (arith, digit-fits c.loop-i.v c.loop-i.i 0 (search rules) (search rules) (search rules))
+overflow_mul-v c = omega (arith, digit-fits c.loop-x.v c.loop-x.x-index 0 (search rules) (search rules) (search rules))
 
 pub overflow_add-v : goal.overflow_add-v
-overflow_add-v c = record { fits = digit-fits _ c.loop-i.i _ (search rules) (search rules) (search rules) }
+overflow_add-v c = record { fits = digit-fits _ c.loop-x.x-index _ (search rules) (search rules) (search rules) }
 
-pub loop-i-preserved : goal.loop-i-preserved
-loop-i-preserved c =
-    let a = c.args in
-    (search rules, cc (num_at_more a.s.now a.at c.loop-i.i (search rules)), digit _ _ _ (search rules) (search rules))
-
-pub returns : goal.returns
-returns c =
-    let l = c.loop-i in
-    let e : l.i ≡ c.args.width = omega arith in
-    (l.invariant.1 ∙ ap (num_at _ _) e, rw (← e) l.invariant.2)
+pub loop-x-preserved : goal.loop-x-preserved
+loop-x-preserved c =
+    let i = c.loop-x.invariant in
+    (num_at_next _ _ _ _ _ _ (search rules) (search rules) i.0 c.from.ensures, digit _ _ _ i.1 (search rules))

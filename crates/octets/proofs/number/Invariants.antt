@@ -1,11 +1,7 @@
-use mathlib.Core.Path.{◌≡◌}
-use Prim.Native.Nat.{◌-◌, ◌^◌, ◌≤◌, ◌<◌}
+-- v is the number in the octets so far.
+use Rattle.std.proofs.Common.{◌≡◌, ◌<◌, ◌^◌}
 use Rattle.octets_spec.specs.Be.{num_at}
 use Rattle.octets.proofs.number.Given as goal
 
--- `octets::number` meets its contract. The invariant: v is the number in the first i octets.
-abbrev pub invariant-loop-i : goal.invariant-loop-i
-invariant-loop-i l = (l.i ≤ l.width) × (l.v ≡ num_at l.s l.at l.i) × (l.v < 256 ^ l.i)
-
-abbrev pub decreases-loop-i : goal.decreases-loop-i
-decreases-loop-i l = l.width - l.i
+abbrev pub invariant-loop-x : goal.invariant-loop-x
+invariant-loop-x l = (l.v ≡ num_at l.s l.at l.x-index) × (l.v < 256 ^ l.x-index)

@@ -1,5 +1,8 @@
-use lib.Seq.{take-length}
+use native.Mathlib.Nat.{add-sub_cancel_left}
+use lib.Seq.{drop-drop}
+use Rattle.octets_spec.specs.Over.{over}
 use Rattle.octets.proofs.put_bytes.Goals as goal
 
 pub returns : goal.returns
-returns c = rw take-length at c.copy.ensures
+unfolding over
+returns c = rw (c.copy_from_slice.ensures.after, add-sub_cancel_left, drop-drop)

@@ -1,12 +1,7 @@
-use mathlib.Core.Path.{◌≡◌}
-use Prim.Native.Nat.{◌-◌, ◌≤◌}
-use lib.ListN.{length, drop}
-use Rattle.text_spec.specs.Check.{is_text}
+-- None so far is greater.
+use Prim.Native.Nat.{ℕ, ◌≤◌, ◌<◌}
+use lib.ListN.{get_or}
 use Rattle.text.proofs.seven_bits.Given as goal
 
--- `text::seven_bits` meets its contract: as long as none has more, what is left is judged as all was.
-abbrev pub invariant-loop-at : goal.invariant-loop-at
-invariant-loop-at l = (l.most ≤ 127 → is_text (drop l.at l.m) ≡ is_text l.m)
-
-abbrev pub decreases-loop-at : goal.decreases-loop-at
-decreases-loop-at l = length l.m - l.at
+abbrev pub invariant-loop-x : goal.invariant-loop-x
+invariant-loop-x l = (k : ℕ) → k < l.x-index → get_or l.m k 0 ≤ l.most
