@@ -24,30 +24,24 @@ ghost use Rattle.dagsumilat_spec.specs.ReadWords.{read_words};
 use cut::cut;
 use dagsumilat_spec::RecordAnswer;
 use dagsumilat_told::table_of;
+use form_spec::Fault;
 use look::{
     count, entry_count_at, late_session_peer, peer_count_at, route_peer, session_peer, subtype_of,
     type_of,
 };
 use octets::{field, skip};
-use octets_spec::{Num, Room};
 use page_spec::LONGEST_MESSAGE;
 use peers::peer_at;
-use record_spec::{Entry, Part, Peer, Table};
-use room_spec::Written;
+use record_spec::{Entry, Part, Table};
 use walk::{step_with, walk};
-use walk_spec::{Item, Step};
+use walk_spec::Item;
 
 // The first fault's number and place, or 0 and the dump's length, and how many records stand before it.
 pub fn dagsumilat_check(dump: &[u8], answer: &mut [u64; 3])
     ensures { answer.new ≡ words.check_words answer.old (walked longest_message dump.now) }
 {
     let w = walk(dump);
-    let fault = w.fault;
-    let place = w.place;
-    let records = w.records;
-    answer[0] = fault as u64;
-    answer[1] = place as u64;
-    answer[2] = records;
+    *answer = [u64::from(w.fault), w.place as u64, w.records];
 }
 
 // The same, and where the faulty record starts, or the dump's length.
@@ -68,18 +62,10 @@ pub fn dagsumilat_cut(
 )
     ensures { (answer.new ≡ words.cut_words answer.old (cut_answer longest_message from to mutes.now dump.now out.old)) × (out.new ≡ cut_leaves longest_message from to mutes.now dump.now out.old) }
 {
-    match cut(dump, from, to, mutes, out) {
-        Written::Octets(n) => {
-            answer[0] = 0;
-            answer[1] = 0;
-            answer[2] = n as u64;
-        }
-        Written::Refused(n, p) => {
-            answer[0] = n as u64;
-            answer[1] = p as u64;
-            answer[2] = 0;
-        }
-    }
+    *answer = match cut(dump, from, to, mutes, out) {
+        Ok(n) => [0, 0, n as u64],
+        Err(f) => [u64::from(f.number), f.place as u64, 0],
+    };
 }
 
 // A dump's records, state changes, breaks of type 12's sequence and table of states added to a report.
@@ -92,10 +78,7 @@ pub fn dagsumilat_report(dump: &[u8], report: &mut [u64; 39], answer: &mut [u64;
 fn count_of_table(t: Table) -> u64
     ensures { result ≡ count_of_table t }
 {
-    match t {
-        Table::Absent => 18446744073709551615,
-        Table::Holds(n) => n,
-    }
+    t.unwrap_or(u64::MAX)
 }
 
 fn no_record(fault: u8, at: usize, table: u64) -> RecordAnswer
@@ -109,7 +92,7 @@ fn no_record(fault: u8, at: usize, table: u64) -> RecordAnswer
         ty: 0,
         subtype: 0,
         length: 0,
-        peer: 18446744073709551615,
+        peer: u64::MAX,
         items: 0,
         count: 0,
     }
@@ -118,19 +101,14 @@ fn no_record(fault: u8, at: usize, table: u64) -> RecordAnswer
 fn good(i: Item, table: u64, peer: u64, items: usize, count: u64) -> RecordAnswer
     ensures { result ≡ good i table peer items count }
 {
-    let place = i.next;
-    let time = i.time;
-    let ty = i.ty;
-    let subtype = i.subtype;
-    let length = i.length;
     RecordAnswer {
         fault: 0,
-        place,
+        place: i.next,
         table,
-        time,
-        ty,
-        subtype,
-        length,
+        time: i.time,
+        ty: i.ty,
+        subtype: i.subtype,
+        length: i.length,
         peer,
         items,
         count,
@@ -153,9 +131,8 @@ fn items_answer(d: &[u8], at: usize, i: Item, subtype: u64, table: u64) -> Recor
     requires { Is d.now at (λ x. (type_of x ≡ 13) × (subtype_of x ≡ subtype)) }
     ensures { Shows d.now at (λ x. result ≡ good i table none (items_at x) (count_of x)) }
 {
-    let none = 18446744073709551615;
     let counted = counted_at(d, at, subtype);
-    good(i, table, none, counted + 2 - at, count(d, counted))
+    good(i, table, u64::MAX, counted + 2 - at, count(d, counted))
 }
 
 // The good record at `at`, behind which `table` is in force.
@@ -163,14 +140,13 @@ fn good_answer(d: &[u8], at: usize, i: Item, table: u64) -> RecordAnswer
     requires { Known d.now at }
     ensures { Shows d.now at (λ x. result ≡ by_sort i table x (sort.sort_of x)) }
 {
-    let none = 18446744073709551615;
     let subtype = subtype_of(d, at);
     match type_of(d, at) {
         12 => good(i, table, route_peer(d, at, subtype), 0, 0),
         13 => items_answer(d, at, i, subtype, table),
         16 => good(i, table, session_peer(d, at, subtype), 0, 0),
         17 => good(i, table, late_session_peer(d, at, subtype), 0, 0),
-        _ => good(i, table, none, 0, 0),
+        _ => good(i, table, u64::MAX, 0, 0),
     }
 }
 
@@ -178,9 +154,9 @@ fn answer_at(d: &[u8], at: usize, table: u64, longest: u64) -> RecordAnswer
     ensures { result ≡ answer_at longest table d.now at }
 {
     match step_with(d, at, table_of(table), longest) {
-        Step::End => no_record(0, at, table),
-        Step::Fault(n, p) => no_record(n, p, table),
-        Step::Record(i, behind) => good_answer(d, at, i, count_of_table(behind)),
+        Ok(None) => no_record(0, at, table),
+        Ok(Some((i, behind))) => good_answer(d, at, i, count_of_table(behind)),
+        Err(f) => no_record(f.number, f.place, table),
     }
 }
 
@@ -189,95 +165,70 @@ pub fn dagsumilat_record(dump: &[u8], at: usize, table: u64, answer: &mut [u64; 
     ensures { answer.new ≡ words.record_words answer.old (answer_at longest_message table dump.now at) }
 {
     let t = answer_at(dump, at, table, LONGEST_MESSAGE);
-    let fault = t.fault;
-    let place = t.place;
-    let ty = t.ty;
-    let subtype = t.subtype;
-    let length = t.length;
-    let items = t.items;
-    answer[0] = fault as u64;
-    answer[1] = place as u64;
-    answer[2] = t.table;
-    answer[3] = t.time;
-    answer[4] = ty as u64;
-    answer[5] = subtype as u64;
-    answer[6] = length as u64;
-    answer[7] = t.peer;
-    answer[8] = items as u64;
-    answer[9] = t.count;
+    *answer = [
+        u64::from(t.fault),
+        t.place as u64,
+        t.table,
+        t.time,
+        u64::from(t.ty),
+        u64::from(t.subtype),
+        u64::from(t.length),
+        t.peer,
+        t.items as u64,
+        t.count,
+    ];
 }
 
 // The peer of a table that starts at `at`.
 pub fn dagsumilat_peer(dump: &[u8], at: usize, answer: &mut [u64; 7])
     ensures { answer.new ≡ words.peer_words answer.old (peer_at dump.now at) }
 {
-    match peer_at(dump, at) {
-        Peer::Of(kind, id, address, number, next) => {
-            let from = address.at;
-            let size = address.size;
-            answer[0] = 0;
-            answer[1] = next as u64;
-            answer[2] = number;
-            answer[3] = kind;
-            answer[4] = id;
-            answer[5] = from as u64;
-            answer[6] = size as u64;
-        }
-        Peer::Bad(n, p) => {
-            answer[0] = n as u64;
-            answer[1] = p as u64;
-            answer[2] = 0;
-            answer[3] = 0;
-            answer[4] = 0;
-            answer[5] = 0;
-            answer[6] = 0;
-        }
-    }
+    *answer = match peer_at(dump, at) {
+        Ok(p) => [
+            0,
+            p.next as u64,
+            p.as_number,
+            p.kind,
+            p.id,
+            p.address.at as u64,
+            p.address.size as u64,
+        ],
+        Err(f) => [u64::from(f.number), f.place as u64, 0, 0, 0, 0, 0],
+    };
 }
 
-fn entry_fields(d: &[u8], at: usize) -> Entry
+fn entry_fields(d: &[u8], at: usize) -> Result<Entry, Fault>
     ensures { result ≡ unjudged_at d.now at }
 {
-    let Num::Value(index, a) = field(d, at, 2) else {
-        return Entry::Bad(5, at);
-    };
-    let Num::Value(originated, b) = field(d, a, 4) else {
-        return Entry::Bad(5, a);
-    };
-    let Num::Value(n, c) = field(d, b, 2) else {
-        return Entry::Bad(5, b);
-    };
+    let (index, a) = field(d, at, 2)?;
+    let (originated, b) = field(d, a, 4)?;
+    let (n, c) = field(d, b, 2)?;
     let size = n as usize;
-    let Room::To(e) = skip(d, c, size) else {
-        return Entry::Bad(5, c);
-    };
-    Entry::At(index, originated, Part { at: c, size }, e)
+    let next = skip(d, c, size)?;
+    let attributes = Part { at: c, size };
+    Ok(Entry {
+        index,
+        originated,
+        attributes,
+        next,
+    })
 }
 
 // The entry of a RIB record that starts at `at`. It is not judged: that was done with its record.
 pub fn dagsumilat_entry(dump: &[u8], at: usize, answer: &mut [u64; 6])
     ensures { answer.new ≡ words.entry_words answer.old (unjudged_at dump.now at) }
 {
-    match entry_fields(dump, at) {
-        Entry::At(index, originated, attributes, next) => {
-            let from = attributes.at;
-            let size = attributes.size;
-            answer[0] = 0;
-            answer[1] = next as u64;
-            answer[2] = index;
-            answer[3] = originated;
-            answer[4] = from as u64;
-            answer[5] = size as u64;
-        }
-        Entry::Bad(n, p) => {
-            answer[0] = n as u64;
-            answer[1] = p as u64;
-            answer[2] = 0;
-            answer[3] = 0;
-            answer[4] = 0;
-            answer[5] = 0;
-        }
-    }
+    *answer = match entry_fields(dump, at) {
+        Ok(e) => [
+            0,
+            e.next as u64,
+            e.index,
+            e.originated,
+            e.attributes.at as u64,
+            e.attributes.size as u64,
+        ],
+        Err(f) => [u64::from(f.number), f.place as u64, 0, 0, 0, 0],
+    };
 }
 
 // One record, all its fields; `table` is the number of peers of the table in force.

@@ -11,6 +11,7 @@ use Rattle.look_spec.specs.Field.{shown, Good}
 use Rattle.dagsumilat_spec.specs.declared.RecordAnswer.{RecordAnswer}
 use Rattle.dagsumilat_spec.specs.RecordAnswers.{table_by_count, by_sort, answer_of, answer_at}
 use Rattle.dagsumilat.proofs.Laws.{answer-step, stands}
+use Rattle.std.specs.Prelude.{Ok}
 use Rattle.dagsumilat.proofs.answer_at.Goals.{After-step_with, Start}
 use Rattle.dagsumilat.proofs.answer_at.Goals as goal
 
@@ -33,15 +34,15 @@ good c =
     stands _ c.args.table _ _ _ _ c.table_of.ensures c.step_with.ensures
 
 pub good_answer-requires : goal.good_answer-requires
-good_answer-requires c = (terms (goal.at.good_answer-requires c).Start, good (goal.at.good_answer-requires c).After-step_with _ _ c.in-Record.is)
+good_answer-requires c = (terms (goal.at.good_answer-requires c).Start, good (goal.at.good_answer-requires c).After-step_with _ _ (c.in-Ok-Some.is ∙ ap Ok c.in-Ok-Some.field-0-is))
 
-pub returns-in-End : goal.returns-in-End
-returns-in-End c = answered (goal.at.returns-in-End c).After-step_with _ _ c.in-End.is c.no_record.ensures
+pub returns-in-Ok-None : goal.returns-in-Ok-None
+returns-in-Ok-None c = answered (goal.at.returns-in-Ok-None c).After-step_with _ _ (c.in-Ok-None.is ∙ ap Ok c.in-Ok-None.field-0-is) c.no_record.ensures
 
-pub returns-in-Fault : goal.returns-in-Fault
-returns-in-Fault c = answered (goal.at.returns-in-Fault c).After-step_with _ _ c.in-Fault.is c.no_record-in-Fault.ensures
+pub returns-in-Err : goal.returns-in-Err
+returns-in-Err c = answered (goal.at.returns-in-Err c).After-step_with _ _ c.in-Err.is c.no_record-in-Err.ensures
 
-pub returns-in-Record : goal.returns-in-Record
-returns-in-Record c =
-    let x = shown (terms (goal.at.returns-in-Record c).Start) c.args.d.now c.args.at in
-    answered (goal.at.returns-in-Record c).After-step_with _ _ c.in-Record.is (c.good_answer.ensures _ (good (goal.at.returns-in-Record c).After-step_with _ _ c.in-Record.is) ∙ ap (λ (n : ℕ). by_sort c.in-Record.i n x (sort_of x)) c.count_of_table.ensures)
+pub returns-in-Ok-Some : goal.returns-in-Ok-Some
+returns-in-Ok-Some c =
+    let x = shown (terms (goal.at.returns-in-Ok-Some c).Start) c.args.d.now c.args.at in
+    answered (goal.at.returns-in-Ok-Some c).After-step_with _ _ (c.in-Ok-Some.is ∙ ap Ok c.in-Ok-Some.field-0-is) (c.good_answer.ensures _ (good (goal.at.returns-in-Ok-Some c).After-step_with _ _ (c.in-Ok-Some.is ∙ ap Ok c.in-Ok-Some.field-0-is)) ∙ ap (λ (n : ℕ). by_sort c.in-Ok-Some.i n x (sort_of x)) c.count_of_table.ensures)
