@@ -38,7 +38,10 @@ fn session_at(m: &[u8], at: usize, width: usize) -> Result<(Session, usize), Fau
     let (interface, d) = field(m, b, 2)?;
     let (family, e) = field(m, d, 2)?;
     let Some(size) = address_size(family) else {
-        return Err(Fault { number: 7, place: d });
+        return Err(Fault {
+            number: 7,
+            place: d,
+        });
     };
     let g = skip(m, e, size)?;
     let next = skip(m, g, size)?;
@@ -58,14 +61,23 @@ fn states(m: &[u8], at: usize, h: Header, s: Session) -> Shown
 {
     let (old, a) = field(m, at, 2)?;
     if old < 1 || 6 < old {
-        return Err(Fault { number: 9, place: at });
+        return Err(Fault {
+            number: 9,
+            place: at,
+        });
     }
     let (new, b) = field(m, a, 2)?;
     if new < 1 || 6 < new {
-        return Err(Fault { number: 9, place: a });
+        return Err(Fault {
+            number: 9,
+            place: a,
+        });
     }
     if b < m.len() {
-        return Err(Fault { number: 6, place: b });
+        return Err(Fault {
+            number: 6,
+            place: b,
+        });
     }
     Ok(Some((h, Body::Change(s, States { old, new }))))
 }
@@ -86,13 +98,22 @@ fn message_rest(
     ensures { result ≡ whole (λ fs. Good h (Message s (record { message = record { at = marker; size = n }; kind = kind }))) refused (message_rest longest n) m.now at }
 {
     if n < 19 || longest < n {
-        return Err(Fault { number: 10, place: length });
+        return Err(Fault {
+            number: 10,
+            place: length,
+        });
     }
     let Ok(e) = skip(m, at, (n - 19) as usize) else {
-        return Err(Fault { number: 5, place: length });
+        return Err(Fault {
+            number: 5,
+            place: length,
+        });
     };
     if e < m.len() {
-        return Err(Fault { number: 6, place: length });
+        return Err(Fault {
+            number: 6,
+            place: length,
+        });
     }
     let message = Part {
         at: marker,

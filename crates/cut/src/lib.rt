@@ -111,7 +111,13 @@ fn fits(
 }
 
 // The cut of a dump that is good.
-fn left_of(dump: &[u8], window: Window, mutes: &[u32], out: &mut [u8], longest: u64) -> Result<usize, Fault>
+fn left_of(
+    dump: &[u8],
+    window: Window,
+    mutes: &[u32],
+    out: &mut [u8],
+    longest: u64,
+) -> Result<usize, Fault>
     requires { Splits (layout longest) dump.now }
     ensures { (result ≡ written 0 0 (left_of longest window.start window.end mutes.now dump.now) out.old) × (out.new ≡ holds 0 (left_of longest window.start window.end mutes.now dump.now) out.old) }
 {

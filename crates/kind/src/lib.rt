@@ -13,7 +13,10 @@ pub fn kind_12(sub: u64) -> Result<Kind, Fault>
     match sub {
         1 => Ok(Kind::TableDump(4)),
         2 => Ok(Kind::TableDump(16)),
-        _ => Err(Fault { number: 4, place: 6 }),
+        _ => Err(Fault {
+            number: 4,
+            place: 6,
+        }),
     }
 }
 
@@ -25,7 +28,10 @@ pub fn kind_13(sub: u64) -> Result<Kind, Fault>
         2..=3 => Ok(Kind::Rib(32)),
         4..=5 => Ok(Kind::Rib(128)),
         6 => Ok(Kind::RibGeneric),
-        _ => Err(Fault { number: 4, place: 6 }),
+        _ => Err(Fault {
+            number: 4,
+            place: 6,
+        }),
     }
 }
 
@@ -37,7 +43,10 @@ pub fn kind_16(micro: usize, sub: u64) -> Result<Kind, Fault>
         5 => Ok(Kind::Change(micro, 4)),
         1 | 6 => Ok(Kind::Message(micro, 2)),
         4 | 7 => Ok(Kind::Message(micro, 4)),
-        _ => Err(Fault { number: 4, place: 6 }),
+        _ => Err(Fault {
+            number: 4,
+            place: 6,
+        }),
     }
 }
 
@@ -51,6 +60,9 @@ pub fn kind_of(ty: u64, sub: u64) -> Result<Kind, Fault>
         13 => kind_13(sub),
         16 => kind_16(0, sub),
         17 => kind_16(4, sub),
-        _ => Err(Fault { number: 3, place: 4 }),
+        _ => Err(Fault {
+            number: 3,
+            place: 4,
+        }),
     }
 }

@@ -65,7 +65,10 @@ pub fn field(m: &[u8], at: usize, width: usize) -> Result<(u64, usize), Fault>
     ensures { result ≡ field_at m.now at width }
 {
     if m.len() < at || m.len() - at < width {
-        return Err(Fault { number: 5, place: at });
+        return Err(Fault {
+            number: 5,
+            place: at,
+        });
     }
     Ok((number(m, at, width), at + width))
 }
@@ -75,7 +78,10 @@ pub fn skip(m: &[u8], at: usize, n: usize) -> Result<usize, Fault>
     ensures { result ≡ room_at m.now at n }
 {
     if m.len() < at || m.len() - at < n {
-        return Err(Fault { number: 5, place: at });
+        return Err(Fault {
+            number: 5,
+            place: at,
+        });
     }
     Ok(at + n)
 }

@@ -72,7 +72,10 @@ pub fn peers_at<T: Copy>(m: &[u8], from: usize, count: u64, s: T) -> Result<T, F
         at = peer_at(m, at)?.next;
     }
     if at < m.len() {
-        return Err(Fault { number: 6, place: at });
+        return Err(Fault {
+            number: 6,
+            place: at,
+        });
     }
     Ok(s)
 }
@@ -103,7 +106,10 @@ pub fn peer_table(m: &[u8], at: usize, h: Header) -> Shown
     let size = n as usize;
     let d = skip(m, b, size)?;
     if !is_text(part(m, b, size)) {
-        return Err(Fault { number: 17, place: b });
+        return Err(Fault {
+            number: 17,
+            place: b,
+        });
     }
     counted_peers(m, d, h, collector, Part { at: b, size })
 }

@@ -23,14 +23,20 @@ pub fn entry_at(m: &[u8], at: usize, peers: u64) -> Result<Entry, Fault>
 {
     let (index, a) = field(m, at, 2)?;
     if peers <= index {
-        return Err(Fault { number: 13, place: at });
+        return Err(Fault {
+            number: 13,
+            place: at,
+        });
     }
     let (originated, b) = field(m, a, 4)?;
     let (n, d) = field(m, b, 2)?;
     let size = n as usize;
     let next = skip(m, d, size)?;
     if !tile(part(m, d, size)) {
-        return Err(Fault { number: 11, place: d });
+        return Err(Fault {
+            number: 11,
+            place: d,
+        });
     }
     let attributes = Part { at: d, size };
     Ok(Entry {
@@ -50,7 +56,10 @@ pub fn entries_at<T: Copy>(m: &[u8], from: usize, count: u64, peers: u64, s: T) 
         at = entry_at(m, at, peers)?.next;
     }
     if at < m.len() {
-        return Err(Fault { number: 6, place: at });
+        return Err(Fault {
+            number: 6,
+            place: at,
+        });
     }
     Ok(s)
 }
@@ -70,7 +79,10 @@ fn prefix_at(
 {
     let (bits, b) = field(m, at, 1)?;
     if most < bits {
-        return Err(Fault { number: 8, place: at });
+        return Err(Fault {
+            number: 8,
+            place: at,
+        });
     }
     let size = ((bits + 7) / 8) as usize;
     let d = skip(m, b, size)?;
@@ -113,11 +125,17 @@ pub fn rib_generic(m: &[u8], at: usize, peers: u64, h: Header) -> Shown
     let (sequence, a) = field(m, at, 4)?;
     let (family, b) = field(m, a, 2)?;
     if family < 1 || 2 < family {
-        return Err(Fault { number: 7, place: a });
+        return Err(Fault {
+            number: 7,
+            place: a,
+        });
     }
     let (safi, d) = field(m, b, 1)?;
     if safi < 1 || 2 < safi {
-        return Err(Fault { number: 7, place: b });
+        return Err(Fault {
+            number: 7,
+            place: b,
+        });
     }
     let scope = Some(Scope { family, safi });
     if family <= 1 {

@@ -8,8 +8,8 @@ ghost use Rattle.listing_spec.specs.Text.{listing};
 ghost use Rattle.report_text_spec.specs.Text.{report_text};
 ghost use Rattle.shown.specs.Adler.{adler32};
 
-use report_text::render;
 use form_spec::Fault;
+use report_text::render;
 use std::io::Write;
 use std::{fmt, io};
 
@@ -96,7 +96,12 @@ fn told(rt: &impl Print, answer: Result<usize, Fault>) -> io::Result<usize> {
 }
 
 // What a call answered, the octets that it wrote, and whether the rest of the room is as it was.
-pub fn answer(rt: &impl Print, answer: Result<usize, Fault>, room: &[u8], most: usize) -> io::Result<()> {
+pub fn answer(
+    rt: &impl Print,
+    answer: Result<usize, Fault>,
+    room: &[u8],
+    most: usize,
+) -> io::Result<()> {
     let n = told(rt, answer)?;
     let (written, rest) = room.split_at(n.min(room.len()));
     octets(rt, written, most)?;

@@ -39,10 +39,16 @@ fn rest_at(
         size: n as usize,
     };
     if !tile(part(m, g, n as usize)) {
-        return Err(Fault { number: 11, place: g });
+        return Err(Fault {
+            number: 11,
+            place: g,
+        });
     }
     if end < m.len() {
-        return Err(Fault { number: 6, place: end });
+        return Err(Fault {
+            number: 6,
+            place: end,
+        });
     }
     let route = Route {
         view,
@@ -68,7 +74,10 @@ pub fn table_dump(m: &[u8], at: usize, size: usize, h: Header) -> Shown
     let d = skip(m, b, size)?;
     let (bits, e) = field(m, d, 1)?;
     if ((8 * size) as u64) < bits {
-        return Err(Fault { number: 8, place: d });
+        return Err(Fault {
+            number: 8,
+            place: d,
+        });
     }
     rest_at(m, e, size, h, view, sequence, Part { at: b, size }, bits)
 }

@@ -14,8 +14,8 @@ ghost use Rattle.write_spec.specs.Givens.{session_values, state_values, bgp_valu
 ghost use Rattle.write_spec.specs.Verdict.{Writes, capped};
 ghost use Rattle.write_bgp.specs.Opening.{opening_values, opening_size};
 
-use form_spec::Fault;
 use bgp::message_at;
+use form_spec::Fault;
 use kind::kind_16;
 use octets::{large, put_bytes, put_number};
 use page_spec::{Kind, LONGEST_MESSAGE};

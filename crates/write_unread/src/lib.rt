@@ -43,7 +43,13 @@ fn unread_refusal(time: Time, ty: u64, subtype: u64, contents: &[u8]) -> u8
 }
 
 // A record of an unread type: with a Timestamp alone, or with microseconds too.
-pub fn write_unread(time: Time, ty: u64, subtype: u64, contents: &[u8], out: &mut [u8]) -> Result<usize, Fault>
+pub fn write_unread(
+    time: Time,
+    ty: u64,
+    subtype: u64,
+    contents: &[u8],
+    out: &mut [u8],
+) -> Result<usize, Fault>
     ensures { Writes (only_type (unreads (micro_size time)) longest_message) no_table (unread_given time ty subtype contents.now) out.old result out.new }
 {
     let size = add(micro(time), contents.len());

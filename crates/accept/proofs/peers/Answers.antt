@@ -9,11 +9,12 @@ use Rattle.accept.proofs.peers.Goals as goal
 
 pub loop-preserved : goal.loop-preserved
 loop-preserved c =
-    let e = c.peer_end-at.ensures.0 in
-    ( omega arith,
+    let e = c.peer_end-at.ensures.0 in (
+      omega arith,
       λ h.
-      let l = forward _ _ _ _ h in
-      c.loop.invariant.1 (one_item _ _ _ _ _ _ (omega arith) (rw e (peer-runs _ c.loop.at (rw e at l))) h) )
+          let l = forward _ _ _ _ h in
+          c.loop.invariant.1 (one_item _ _ _ _ _ _ (omega arith) (rw e (peer-runs _ c.loop.at (rw e at l))) h),
+    )
 
 pub returns : goal.returns
 returns c =

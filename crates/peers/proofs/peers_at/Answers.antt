@@ -22,10 +22,11 @@ pub loop-preserved : goal.loop-preserved
 loop-preserved g c =
     let l = c.loop in
     let a = c.args in
-    let one_less : a.count - (l.counter + 1) ≡ a.count - l.counter - 1 = omega arith in
-    ( omega arith,
+    let one_less : a.count - (l.counter + 1) ≡ a.count - l.counter - 1 = omega arith in (
+      omega arith,
       ap (λ k. goes show.peer refused refused onward goes_to stops peer (Ok a.s) a.m.now k c.in_ok-at.field-0.next) one_less
-      ∙ goes_on show.peer refused refused onward goes_to stops _ _ _ (a.count - l.counter) l.at _ _ _ c.in_ok-at.ensures.0 refl (λ f. refl) (omega arith) ∙ l.invariant.1 )
+          ∙ goes_on show.peer refused refused onward goes_to stops _ _ _ (a.count - l.counter) l.at _ _ _ c.in_ok-at.ensures.0 refl (λ f. refl) (omega arith) ∙ l.invariant.1,
+    )
 
 pub returns-then-at-m : goal.returns-then-at-m
 returns-then-at-m g c =

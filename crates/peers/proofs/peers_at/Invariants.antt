@@ -13,4 +13,4 @@ abbrev pub invariant-loop : goal.invariant-loop
 invariant-loop g l =
     (l.counter ≤ l.count)
     × (goes show.peer refused refused onward goes_to stops peer (Ok l.s) l.m (l.count - l.counter) l.at
-        ≡ goes show.peer refused refused onward goes_to stops peer (Ok l.s) l.m l.count l.from)
+    ≡ goes show.peer refused refused onward goes_to stops peer (Ok l.s) l.m l.count l.from)

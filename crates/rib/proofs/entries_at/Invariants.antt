@@ -13,4 +13,4 @@ abbrev pub invariant-loop : goal.invariant-loop
 invariant-loop g l =
     (l.counter ≤ l.count)
     × (goes show.entry refused refused onward goes_to stops (entry l.peers) (Ok l.s) l.m (l.count - l.counter) l.at
-        ≡ goes show.entry refused refused onward goes_to stops (entry l.peers) (Ok l.s) l.m l.count l.from)
+    ≡ goes show.entry refused refused onward goes_to stops (entry l.peers) (Ok l.s) l.m l.count l.from)
