@@ -16,12 +16,10 @@ fn fit(report: &[u64], more: [u64; 39]) -> bool
     requires { length report.now ≡ 39 }
     ensures { result ≡ fit (sums report.now more) }
 {
-    let mut i = 0;
-    while i < 39 {
-        if 18446744073709551615 - more[i] < report[i] {
+    for i in 0..39 {
+        if u64::MAX - more[i] < report[i] {
             return false;
         }
-        i += 1;
     }
     true
 }
@@ -30,10 +28,8 @@ fn put_sums(report: &mut [u64], more: [u64; 39])
     requires { (length report.old ≡ 39) × (fit (sums report.old more) ≡ true) }
     ensures { report.new ≡ sums report.old more }
 {
-    let mut k = 0;
-    while k < 39 {
-        report[k] = report[k] + more[k];
-        k += 1;
+    for k in 0..39 {
+        report[k] += more[k];
     }
 }
 
@@ -57,13 +53,13 @@ pub fn add_with(d: &[u8], report: &mut [u64; 39], longest: u64) -> Added
     ensures { Adds longest report.old d.now result report.new }
 {
     let k = tally(d, true, longest);
-    let fault = k.fault;
-    let place = k.place;
-    if fault != 0 {
-        return Added { fault, place };
+    if k.fault != 0 {
+        return Added {
+            fault: k.fault,
+            place: k.place,
+        };
     }
-    let more = k.own;
-    sum(report, more, place)
+    sum(report, k.own, k.place)
 }
 
 // The same up to the longest BGP message of today.

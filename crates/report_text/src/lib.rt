@@ -43,10 +43,8 @@ fn put_cells(out: &mut [u8], at: usize, own: [u64; 39]) -> usize
     ensures { Lays out.old at (cell_lines 0 (drop 3 own)) result out.new × (result ≤ at + 1152) }
 {
     let mut put = at;
-    let mut k = 0;
-    while k < 36 {
+    for k in 0..36 {
         put = put_cell(out, put, (k / 6 + 1) as u64, (k % 6 + 1) as u64, own[3 + k]);
-        k += 1;
     }
     put
 }
@@ -66,12 +64,10 @@ fn put_answer(out: &mut [u8], t: Tallied) -> usize
     requires { 2048 ≤ length out.old }
     ensures { Lays out.old 0 (answer_lines t.fault t.place t.own) result out.new × (result ≤ 2048) }
 {
-    let fault = t.fault;
-    if fault != 0 {
-        return put_fault(out, 0, fault, t.place);
+    if t.fault != 0 {
+        return put_fault(out, 0, t.fault, t.place);
     }
-    let own = t.own;
-    put_report(out, own)
+    put_report(out, t.own)
 }
 
 // All that the program writes for the dump d. Answers how many octets of out it is; behind them out stays as it was.

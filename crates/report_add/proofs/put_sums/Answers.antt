@@ -40,9 +40,6 @@ overflow_add-report c =
     let h : c.loop-k.k < 39 = search rules in
     omega (arith, same (goal.at.overflow_add-report c).At-loop-k h, fit_at c.args.report.now c.args.more c.loop-k.k (omega (arith, c.requires.0)) (long (goal.at.overflow_add-report c).Start) c.requires.1)
 
-pub offset_bounds-report-k-in-loop-k : goal.offset_bounds-report-k-in-loop-k
-offset_bounds-report-k-in-loop-k c = let h : c.loop-k.k < 39 = search rules in omega arith
-
 pub bounds-report-k-in-loop-k : goal.bounds-report-k-in-loop-k
 bounds-report-k-in-loop-k c = omega (arith, as_long (goal.at.bounds-report-k-in-loop-k c).At-loop-k)
 
