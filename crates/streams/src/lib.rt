@@ -101,3 +101,19 @@ pub fn each_named<F: FnMut(File) -> io::Result<()>>(rt: &HostRuntime, mut case: 
     }
     Ok(())
 }
+
+#[cfg(test)]
+mod tests {
+    use super::*;
+
+    // What no clause says: that there is memory for it.
+    #[test]
+    fn reads_what_is_there(rt: HostRuntime) -> io::Result<()> {
+        let mut input: &[u8] = b"records";
+        let first = read_at_most(rt.alloc(), &mut input, 3)?;
+        assert!(rt; first.as_slice() == b"rec".as_slice());
+        let rest = read_at_most(rt.alloc(), &mut input, 9)?;
+        assert!(rt; rest.as_slice() == b"ords".as_slice());
+        Ok(())
+    }
+}
