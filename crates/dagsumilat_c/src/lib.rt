@@ -1,4 +1,5 @@
-// The library's calls as C has them (include/dagsumilat.h): each is that of the same name in the crate `dagsumilat`.
+// The library's calls as C has them (include/dagsumilat.h): each is that of the same name in the crate `dagsumilat`, with its clauses said again,
+// since a contract cannot cite another function's.
 #![tactic(auto)]
 
 ghost use Rattle.std.specs.Prelude.{◌≡◌};
