@@ -1,6 +1,4 @@
 -- `bgp::states` meets its contract: `read` is what the fields before have shown.
-use Prim.Native.Nat.{◌<◌}
-use native.Mathlib.Omega.{arith}
 use Rattle.page_spec.specs.Bgp4mp.{state_change, state}
 use Rattle.octets_laws.proofs.Rules.{flow}
 use mathlib.Core.Path.{◌≡◌}

@@ -1,5 +1,4 @@
 -- `rib::prefix_at` meets its contract: `read` is what the fields before have shown.
-use Rattle.form_spec.specs.Pass.{pass}
 use Rattle.page_spec.specs.Rib.{prefix, entry_list}
 use Rattle.octets_laws.proofs.Rules.{flow}
 use mathlib.Core.Path.{◌≡◌}
