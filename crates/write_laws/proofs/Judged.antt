@@ -45,6 +45,11 @@ pub then_err : (n m : ℕ) (why : Fault) (y : Result ⊤ Fault) → Err why ≡ 
 then_err zero m why y e h = cc
 then_err (suc n) m why y e h = let s = stops (suc n) why e in h ∙ rw s.same
 
+-- an answer by number is its own without a place
+pub alike : (n : ℕ) (r : Result ⊤ Fault) → r ≡ judged n → unplaced r ≡ judged n
+alike zero r e = rw e
+alike (suc n) r e = rw e
+
 -- a number's size is right where the number is
 in_digits : (w v : ℕ) → misfit (digits w v) w ≡ large w v
 in_digits w v = rw (le-ltb w w (omega arith)) (go (large w v))
