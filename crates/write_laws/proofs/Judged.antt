@@ -50,13 +50,13 @@ pub alike : (n : ℕ) (r : Result ⊤ Fault) → r ≡ judged n → unplaced r �
 alike zero r e = rw e
 alike (suc n) r e = rw e
 
+or_none : (n : ℕ) → or_else n 0 ≡ n
+or_none zero = refl
+or_none (suc n) = refl
+
 -- a number's size is right where the number is
 in_digits : (w v : ℕ) → misfit (digits w v) w ≡ large w v
-in_digits w v = rw (le-ltb w w (omega arith)) (go (large w v))
-  where
-    go : (n : ℕ) → or_else n 0 ≡ n
-    go zero = refl
-    go (suc n) = refl
+in_digits w v = rw (le-ltb w w (omega arith)) (or_none (large w v))
 
 kept : (w v : ℕ) → large w v ≡ 0 → be (to_be w v) ≡ v
 kept w v e = go (ltb v (256 ^ w)) refl e
@@ -128,7 +128,12 @@ pub all_put : (b : ℕ) (y : Result ⊤ Fault) → y ≡ Ok tt → y ≡ judged 
 unfolding refusal
 all_put b y h = h
 
-pub ruleset judge_flow = (number_fits, number_large, value_right, value_wrong, value_large, bytes_fit, bytes_not, bytes_all, tested_right, tested_wrong, first_put, second_put, fail_put, all_put, inside, below, above, eq-eqb, ne_eqb, le-leb, lt-leb, arith)
+-- octets behind which there is nothing
+pub bytes_last : (x w b : ℕ) (c : List ℕ) (r : Result ⊤ Fault) → r ≡ judged (sized (length c) w) → unplaced r ≡ judged (refusal (skip x w (end b)) (bytes c ∷ []))
+unfolding skip refusal
+bytes_last x w b c r e = rw (or_none (sized (length c) w)) (alike (sized (length c) w) r e)
+
+pub ruleset judge_flow = (bytes_last, number_fits, number_large, value_right, value_wrong, value_large, bytes_fit, bytes_not, bytes_all, tested_right, tested_wrong, first_put, second_put, fail_put, all_put, inside, below, above, eq-eqb, ne_eqb, le-leb, lt-leb, arith)
 
 -- ---- what a reader answers of octets laid out
 
@@ -169,10 +174,6 @@ by_number (Err why) h = go why.number h
     go (suc n) h = refl
 
 -- ---- the microseconds, before other fields
-
-or_none : (n : ℕ) → or_else n 0 ≡ n
-or_none zero = refl
-or_none (suc n) = refl
 
 pub stamp_alone : (s u : ℕ) → refusal (stamped (micro_size (Micro s u)) (end 0)) (micros (Micro s u)) ≡ large 4 u
 unfolding stamped num refusal

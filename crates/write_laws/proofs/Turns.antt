@@ -49,6 +49,16 @@ module _ (f g : Fmt) (vs : List Value) (t : Tail) (n : ℕ) (added : n ≡ refus
   unfolding body_refusal
   front-passes r h e = rw (← added) (e ∙ or_next n (items_refusal g t) h)
 
+-- the same of answers
+module _ (f g : Fmt) (vs : List Value) (t : Tail) (y : Result ⊤ Fault) where
+  pub front_err : (why : Fault) → Err why ≡ judged (refusal f vs) → y ≡ refused why.number 0 → y ≡ judged (body_refusal (many f g) vs t)
+  unfolding body_refusal
+  front_err why e h = then_err (refusal f vs) (items_refusal g t) why y e h
+
+  pub front_ok : (u : ⊤) → Ok u ≡ judged (refusal f vs) → y ≡ judged (items_refusal g t) → y ≡ judged (body_refusal (many f g) vs t)
+  unfolding body_refusal
+  front_ok u e h = then_ok (refusal f vs) (items_refusal g t) u y e h
+
 -- ---- whose a kind is
 
 -- the tag of a writer's kinds
