@@ -47,5 +47,5 @@ items_large g n raw why y e h = then_err (large 2 n) (fault_of (read_n g n 0 raw
 
 pub items_read : (g : Fmt) (n : ℕ) (raw : List ℕ) (u : ⊤) (r : Result ⊤ Fault) → Ok u ≡ judged (large 2 n) → r ≡ whole (λ fs. none) refused (times n g) raw 0 → unplaced r ≡ judged (items_refusal g (items n raw))
 items_read g n raw u r e h =
-    let s : unplaced r ≡ judged (fault_of (read_n g n 0 raw)) = rw h (by_number (whole (λ fs. none) refused (times n g) raw 0) (whole_strict (times n g) raw 0) ∙ ap judged (items-fault g n raw)) in
+    let s : unplaced r ≡ judged (fault_of (read_n g n 0 raw)) = rw h (by_number (whole (λ fs. none) refused (times n g) raw 0) (whole_strict (λ fs. tt) (times n g) raw 0) ∙ ap judged (items-fault g n raw)) in
     then_ok (large 2 n) (fault_of (read_n g n 0 raw)) u (unplaced r) e s

@@ -138,32 +138,33 @@ pub ruleset judge_flow = (bytes_last, number_fits, number_large, value_right, va
 -- ---- what a reader answers of octets laid out
 
 -- a refusal has a number
-abbrev pub Strict : Result ⊤ Fault → Type 0
+abbrev pub Strict : {A : Type 0} → Result A Fault → Type 0
 Strict (Ok u) = Unit
 Strict (Err why) = 0 < why.number
 
-pass_strict : (to : List Seen → ℕ → ℕ → Result ⊤ Fault) → ((fs : List Seen) (a p : ℕ) → Strict (to fs a p)) → (f : Fmt) (m : List ℕ) (i : ℕ) → Strict (pass to refused f m i)
-unfolding pass
-pass_strict to h (end b) m i = h [] i (i - b)
-pass_strict to h (test zero b f) m i = pass_strict to h f m i
-pass_strict to h (test (suc n) b f) m i = omega arith
-pass_strict to h (field x l b k) m i =
-    go (ltb (length m) (i + l)) (pass_strict (λ fs. to (note x i l (i + l) (be (take l (drop i m))) fs)) (λ fs. h (note x i l (i + l) (be (take l (drop i m))) fs)) (k (take l (drop i m))) m (i + l))
-  where
-    rest : Result ⊤ Fault
-    rest = pass (λ fs. to (note x i l (i + l) (be (take l (drop i m))) fs)) refused (k (take l (drop i m))) m (i + l)
+module _ {A : Type 0} where
+  pass_strict : (to : List Seen → ℕ → ℕ → Result A Fault) → ((fs : List Seen) (a p : ℕ) → Strict (to fs a p)) → (f : Fmt) (m : List ℕ) (i : ℕ) → Strict (pass to refused f m i)
+  unfolding pass
+  pass_strict to h (end b) m i = h [] i (i - b)
+  pass_strict to h (test zero b f) m i = pass_strict to h f m i
+  pass_strict to h (test (suc n) b f) m i = omega arith
+  pass_strict to h (field x l b k) m i =
+      go (ltb (length m) (i + l)) (pass_strict (λ fs. to (note x i l (i + l) (be (take l (drop i m))) fs)) (λ fs. h (note x i l (i + l) (be (take l (drop i m))) fs)) (k (take l (drop i m))) m (i + l))
+    where
+      rest : Result A Fault
+      rest = pass (λ fs. to (note x i l (i + l) (be (take l (drop i m))) fs)) refused (k (take l (drop i m))) m (i + l)
 
-    go : (t : Bool) → Strict rest → Strict (cond t (refused 5 (i - b)) rest)
-    go true s = omega arith
-    go false s = s
+      go : (t : Bool) → Strict rest → Strict (cond t (refused 5 (i - b)) rest)
+      go true s = omega arith
+      go false s = s
 
-pub whole_strict : (f : Fmt) (m : List ℕ) (i : ℕ) → Strict (whole (λ fs. Ok tt) refused f m i)
-unfolding choose
-whole_strict f m i = pass_strict (λ fs a p. choose (ltb a (length m)) (refused 6 p) (Ok tt)) (λ fs a p. go (ltb a (length m)) p) f m i
-  where
-    go : (t : Bool) (p : ℕ) → Strict (cond t (refused 6 p) (Ok tt))
-    go true p = omega arith
-    go false p = tt
+  pub whole_strict : (to : List Seen → A) (f : Fmt) (m : List ℕ) (i : ℕ) → Strict (whole (λ fs. Ok (to fs)) refused f m i)
+  unfolding choose
+  whole_strict to f m i = pass_strict (λ fs a p. choose (ltb a (length m)) (refused 6 p) (Ok (to fs))) (λ fs a p. go (ltb a (length m)) p (to fs)) f m i
+    where
+      go : (t : Bool) (p : ℕ) (x : A) → Strict (cond t (refused 6 p) (Ok x))
+      go true p x = omega arith
+      go false p x = tt
 
 pub by_number : (r : Result ⊤ Fault) → Strict r → unplaced r ≡ judged (number_in r)
 by_number (Ok u) h = refl

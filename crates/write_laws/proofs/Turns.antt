@@ -34,7 +34,7 @@ or_next : (n m : ℕ) → n ≤ 0 → m ≡ or_else n m
 or_next zero m h = refl
 or_next (suc n) m h = absurd (omega arith)
 
-or_both : (n m b : ℕ) → or_else (or_else n m) b ≡ or_else n (or_else m b)
+pub or_both : (n m b : ℕ) → or_else (or_else n m) b ≡ or_else n (or_else m b)
 or_both zero m b = refl
 or_both (suc n) m b = refl
 

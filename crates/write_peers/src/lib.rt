@@ -17,7 +17,7 @@ use form_spec::Fault;
 use octets::{put_bytes, put_number};
 use peers::peers_at;
 use text::is_text;
-use write::{fits, head_refusal_by, put_head, verdict_by};
+use write::{fits, head_refusal, put_head, verdict};
 
 // Peers are judged by the reader, as they stand.
 fn peers_refusal(peers: &[u8], count: u64) -> Result<(), Fault>
@@ -33,10 +33,7 @@ fn front_refusal(collector: u64, name: &[u8]) -> Result<(), Fault>
     fits(collector, 4)?;
     fits(name.len() as u64, 2)?;
     if !is_text(name) {
-        return Err(Fault {
-            number: 17,
-            place: 0,
-        });
+        return Err(Fault { number: 17, place: 0 });
     }
     Ok(())
 }
@@ -51,7 +48,7 @@ fn table_refusal(
 ) -> Result<(), Fault>
     ensures { (longest : ℕ) → unplaced result ≡ judged (fields_refusal (only_sub peer_tables longest) no_table (peer_table_given timestamp collector name.now count peers.now)) }
 {
-    head_refusal_by(timestamp, 1)?;
+    head_refusal(timestamp, 1)?;
     front_refusal(collector, name)?;
     peers_refusal(peers, count)
 }
@@ -82,7 +79,7 @@ pub fn write_peer_table(
 {
     let fields = table_refusal(timestamp, collector, name, count, peers);
     let size = name.len().saturating_add(peers.len()).saturating_add(8);
-    let written = verdict_by(fields, size, out.len())?;
+    let written = verdict(fields, size, out.len())?;
     put_head(out, timestamp, 13, 1, size as u64);
     put_table(out, collector, name, count, peers);
     Ok(written)

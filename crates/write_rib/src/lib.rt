@@ -19,7 +19,7 @@ use octets::{put_bytes, put_number};
 use page_spec::Kind;
 use record_spec::Table;
 use rib::entries_at;
-use write::{fits, head_refusal_by, put_head, sized, verdict_by};
+use write::{fits, head_refusal, put_head, sized, verdict};
 
 // Entries are judged by the reader, as they stand.
 fn entries_refusal(entries: &[u8], count: u64, peers: u64) -> Result<(), Fault>
@@ -36,10 +36,7 @@ fn prefix_refusal(most: u64, bits: u64, octets: &[u8]) -> Result<(), Fault>
 {
     fits(bits, 1)?;
     if most < bits {
-        return Err(Fault {
-            number: 8,
-            place: 0,
-        });
+        return Err(Fault { number: 8, place: 0 });
     }
     let size = ((bits + 7) / 8) as usize;
     sized(octets.len(), size)
@@ -58,18 +55,12 @@ fn rib_refusal(
 ) -> Result<(), Fault>
     ensures { (longest : ℕ) → unplaced result ≡ judged (fields_refusal (only_sub ribs longest) (state_of told) (rib_given timestamp subtype sequence bits prefix.now count entries.now)) }
 {
-    head_refusal_by(timestamp, subtype)?;
+    head_refusal(timestamp, subtype)?;
     let Ok(Kind::Rib(most)) = kind_13(subtype) else {
-        return Err(Fault {
-            number: 4,
-            place: 0,
-        });
+        return Err(Fault { number: 4, place: 0 });
     };
     let Some(peers) = told else {
-        return Err(Fault {
-            number: 12,
-            place: 0,
-        });
+        return Err(Fault { number: 12, place: 0 });
     };
     fits(sequence, 4)?;
     prefix_refusal(most, bits, prefix)?;
@@ -89,17 +80,11 @@ fn generic_refusal(
     fits(sequence, 4)?;
     fits(family, 2)?;
     if family < 1 || 2 < family {
-        return Err(Fault {
-            number: 7,
-            place: 0,
-        });
+        return Err(Fault { number: 7, place: 0 });
     }
     fits(safi, 1)?;
     if safi < 1 || 2 < safi {
-        return Err(Fault {
-            number: 7,
-            place: 0,
-        });
+        return Err(Fault { number: 7, place: 0 });
     }
     if family <= 1 {
         return prefix_refusal(32, bits, prefix);
@@ -121,12 +106,9 @@ fn generic_rib_refusal(
 ) -> Result<(), Fault>
     ensures { (longest : ℕ) → unplaced result ≡ judged (fields_refusal (only_sub generic_ribs longest) (state_of told) (rib_generic_given timestamp sequence family safi bits prefix.now count entries.now)) }
 {
-    head_refusal_by(timestamp, 6)?;
+    head_refusal(timestamp, 6)?;
     let Some(peers) = told else {
-        return Err(Fault {
-            number: 12,
-            place: 0,
-        });
+        return Err(Fault { number: 12, place: 0 });
     };
     generic_refusal(sequence, family, safi, bits, prefix)?;
     entries_refusal(entries, count, peers)
@@ -163,7 +145,7 @@ pub fn write_rib(
         timestamp, subtype, told, sequence, bits, prefix, count, entries,
     );
     let size = prefix.len().saturating_add(entries.len()).saturating_add(7);
-    let written = verdict_by(fields, size, out.len())?;
+    let written = verdict(fields, size, out.len())?;
     put_head(out, timestamp, 13, subtype, size as u64);
     put_number(out, 12, 4, sequence);
     put_entries(out, 16, bits, prefix, count, entries);
@@ -189,7 +171,7 @@ pub fn write_rib_generic(
         timestamp, told, sequence, family, safi, bits, prefix, count, entries,
     );
     let size = prefix.len().saturating_add(entries.len()).saturating_add(10);
-    let written = verdict_by(fields, size, out.len())?;
+    let written = verdict(fields, size, out.len())?;
     put_head(out, timestamp, 13, 6, size as u64);
     put_number(out, 12, 4, sequence);
     put_number(out, 16, 2, family);

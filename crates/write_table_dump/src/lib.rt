@@ -17,7 +17,7 @@ use form_spec::Fault;
 use kind::kind_12;
 use octets::{put_bytes, put_number};
 use page_spec::Kind;
-use write::{fits, head_refusal_by, put_head, sized, verdict_by};
+use write::{fits, head_refusal, put_head, sized, verdict};
 
 // Behind the prefix length.
 fn rest_refusal(
@@ -36,10 +36,7 @@ fn rest_refusal(
     fits(peer, 2)?;
     fits(attributes.len() as u64, 2)?;
     if !attr::tile(attributes) {
-        return Err(Fault {
-            number: 11,
-            place: 0,
-        });
+        return Err(Fault { number: 11, place: 0 });
     }
     Ok(())
 }
@@ -64,10 +61,7 @@ fn route_refusal(
     sized(prefix.len(), size)?;
     fits(bits, 1)?;
     if ((8 * size) as u64) < bits {
-        return Err(Fault {
-            number: 8,
-            place: 0,
-        });
+        return Err(Fault { number: 8, place: 0 });
     }
     rest_refusal(size, status, originated, address, peer, attributes)
 }
@@ -88,12 +82,9 @@ fn dump_refusal(
 ) -> Result<(), Fault>
     ensures { (longest : ℕ) → unplaced result ≡ judged (fields_refusal (only_sub table_dumps longest) no_table (table_dump_given timestamp subtype view sequence prefix.now bits status originated address.now peer attributes.now)) }
 {
-    head_refusal_by(timestamp, subtype)?;
+    head_refusal(timestamp, subtype)?;
     let Ok(Kind::TableDump(size)) = kind_12(subtype) else {
-        return Err(Fault {
-            number: 4,
-            place: 0,
-        });
+        return Err(Fault { number: 4, place: 0 });
     };
     route_refusal(
         size, view, sequence, prefix, bits, status, originated, address, peer, attributes,
@@ -159,7 +150,7 @@ pub fn write_table_dump(
     );
     let parts = prefix.len().saturating_add(address.len()).saturating_add(attributes.len());
     let size = parts.saturating_add(14);
-    let written = verdict_by(fields, size, out.len())?;
+    let written = verdict(fields, size, out.len())?;
     put_head(out, timestamp, 12, subtype, size as u64);
     let at = put_front(out, view, sequence, prefix, bits);
     put_rest(out, at, status, originated, address, peer, attributes);

@@ -15,7 +15,7 @@ use form_spec::Fault;
 use kind::kind_of;
 use octets::put_bytes;
 use page_spec::Kind;
-use write::{fits, micro, put_head, put_micros, seconds, stamp_refusal, verdict_by};
+use write::{fits, micro, put_head, put_micros, seconds, stamp_refusal, verdict};
 use write_spec::Time;
 
 // All but the Length and the room; neither the contents nor the length of a BGP message has a part in it.
@@ -25,16 +25,10 @@ fn unread_refusal(time: Time, ty: u64, subtype: u64) -> Result<(), Fault>
     fits(seconds(time), 4)?;
     fits(ty, 2)?;
     let Ok(Kind::Unread(n)) = kind_of(ty, subtype) else {
-        return Err(Fault {
-            number: 3,
-            place: 0,
-        });
+        return Err(Fault { number: 3, place: 0 });
     };
     if n != micro(time) {
-        return Err(Fault {
-            number: 3,
-            place: 0,
-        });
+        return Err(Fault { number: 3, place: 0 });
     }
     fits(subtype, 2)?;
     stamp_refusal(time)
@@ -45,7 +39,7 @@ pub fn write_unread(time: Time, ty: u64, subtype: u64, contents: &[u8], out: &mu
     ensures { Writes (only_type (unreads (micro_size time)) longest_message) no_table (unread_given time ty subtype contents.now) out.old result out.new }
 {
     let size = micro(time).saturating_add(contents.len());
-    let written = verdict_by(unread_refusal(time, ty, subtype), size, out.len())?;
+    let written = verdict(unread_refusal(time, ty, subtype), size, out.len())?;
     put_head(out, seconds(time), ty, subtype, size as u64);
     let at = put_micros(out, time);
     put_bytes(contents, out, at);

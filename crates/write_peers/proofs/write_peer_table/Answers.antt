@@ -13,19 +13,19 @@ use Rattle.std.specs.Prelude.{Err}
 use Rattle.room_spec.specs.Written.{Octets}
 use Rattle.write_peers.proofs.Laws.{table-length}
 use borrow.Author.Rules.{rules}
-use Rattle.write_peers.proofs.write_peer_table.Goals.{After-verdict_by, In_ok-written}
+use Rattle.write_peers.proofs.write_peer_table.Goals.{After-verdict, In_ok-written}
 use Rattle.write_peers.proofs.write_peer_table.Goals as goal
 
-abbrev given : After-verdict_by → Given
+abbrev given : After-verdict → Given
 given c =
     let a = c.args in peer_table_given a.timestamp a.collector a.name.now a.count a.peers.now
 
-long : (c : After-verdict_by) → let given : (Given) = let a = c.args in peer_table_given a.timestamp a.collector a.name.now a.count a.peers.now in let a = c.args in length a.name.now + length a.peers.now + 8 ≡ length (message (given))
+long : (c : After-verdict) → let given : (Given) = let a = c.args in peer_table_given a.timestamp a.collector a.name.now a.count a.peers.now in let a = c.args in length a.name.now + length a.peers.now + 8 ≡ length (message (given))
 long c =
     let given : (Given) = let a = c.args in peer_table_given a.timestamp a.collector a.name.now a.count a.peers.now in
     let a = c.args in table-length a.timestamp a.collector a.name.now a.count a.peers.now
 
-sized : (c : After-verdict_by) → let given : (Given) = let a = c.args in peer_table_given a.timestamp a.collector a.name.now a.count a.peers.now in c.saturating_add-size.result ≡ capped (length (message (given)))
+sized : (c : After-verdict) → let given : (Given) = let a = c.args in peer_table_given a.timestamp a.collector a.name.now a.count a.peers.now in c.saturating_add-size.result ≡ capped (length (message (given)))
 sized c =
     let given : (Given) = let a = c.args in peer_table_given a.timestamp a.collector a.name.now a.count a.peers.now in
     let long : (let a = c.args in length a.name.now + length a.peers.now + 8 ≡ length (message (given))) = let a = c.args in table-length a.timestamp a.collector a.name.now a.count a.peers.now in
@@ -45,7 +45,7 @@ returns-in_err-written c =
     let a = c.args in
     let why = c.in_err-written.field-0.0 in
     let passed : c.from_residual.result ≡ Err why = search rules in
-    refuses _ no_table (given (goal.at.returns-in_err-written c).After-verdict_by) c.args.out.now _ _ _ _ refl (sized (goal.at.returns-in_err-written c).After-verdict_by) refl (passed ∙ c.in_err-written.ensures _ (c.table_refusal-fields.ensures _)) why passed
+    refuses _ no_table (given (goal.at.returns-in_err-written c).After-verdict) c.args.out.now _ _ _ _ refl (sized (goal.at.returns-in_err-written c).After-verdict) refl (passed ∙ c.in_err-written.ensures _ (c.table_refusal-fields.ensures _)) why passed
 
 pub put_head-requires : goal.put_head-requires
 put_head-requires c = let s = (fine 0 (goal.at.put_head-requires c).In_ok-written).space in search rules
@@ -53,7 +53,7 @@ put_head-requires c = let s = (fine 0 (goal.at.put_head-requires c).In_ok-writte
 pub put_table-requires : goal.put_table-requires
 put_table-requires c =
     let s = (fine 0 (goal.at.put_table-requires c).In_ok-written).space in
-    let l = long (goal.at.put_table-requires c).After-verdict_by in
+    let l = long (goal.at.put_table-requires c).After-verdict in
     search rules
 
 pub returns : goal.returns

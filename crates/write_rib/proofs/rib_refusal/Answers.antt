@@ -41,27 +41,27 @@ unfolding kind choose layout_for
 passes longest y c h =
     let given : (Given) = let a = c.args in rib_given a.timestamp a.subtype a.sequence a.bits a.prefix.now a.count a.entries.now in
     let kind_is : (kind13 c.args.subtype ≡ Rib c.in-Ok-Rib.most) = sym c.kind_13.ensures ∙ c.in-Ok-Rib.is ∙ ap Ok c.in-Ok-Rib.field-0-is in
-    own_kind longest ribs (state_of c.args.told) given _ y (omega arith) refl kind_is _ c.in_ok-head_refusal_by.ensures refl h
+    own_kind longest ribs (state_of c.args.told) given _ y (omega arith) refl kind_is _ c.in_ok-head_refusal.ensures refl h
 
 pub prefix_refusal-requires : goal.prefix_refusal-requires
 prefix_refusal-requires c = rw (kind_is (goal.at.prefix_refusal-requires c).In-Ok-Rib) at (sane13 c.args.subtype)
 
-pub returns-in_err-head_refusal_by : goal.returns-in_err-head_refusal_by
+pub returns-in_err-head_refusal : goal.returns-in_err-head_refusal
 unfolding kind choose
-returns-in_err-head_refusal_by c = λ longest.
-    let passed : c.from_residual.result ≡ Err c.in_err-head_refusal_by.field-0.0 = search rules in
-    head_stops longest ribs (state_of c.args.told) (given (goal.at.returns-in_err-head_refusal_by c).Start) _ _ (omega arith) refl refl _ c.in_err-head_refusal_by.ensures (ap unplaced passed)
+returns-in_err-head_refusal c = λ longest.
+    let passed : c.from_residual.result ≡ Err c.in_err-head_refusal.field-0.0 = search rules in
+    head_stops longest ribs (state_of c.args.told) (given (goal.at.returns-in_err-head_refusal c).Start) _ _ (omega arith) refl refl _ c.in_err-head_refusal.ensures (ap unplaced passed)
 
 pub returns-in_default : goal.returns-in_default
 unfolding kind choose
 returns-in_default c = λ longest.
-    other_kind longest ribs (state_of c.args.told) (given (goal.at.returns-in_default c).Start) _ _ (omega arith) refl (sym c.in_default.ensures) _ c.in_ok-head_refusal_by.ensures
+    other_kind longest ribs (state_of c.args.told) (given (goal.at.returns-in_default c).Start) _ _ (omega arith) refl (sym c.in_default.ensures) _ c.in_ok-head_refusal.ensures
     (not_own (0 ∷ 1 ∷ 2 ∷ 4 ∷ 5 ∷ 6 ∷ []) ribs 3 _ refl tt (opened c.in_default.in_default-own.keys2)) refl
 
 pub returns-in_default-2 : goal.returns-in_default-2
 unfolding kind choose
 returns-in_default-2 c = λ longest.
-    other_kind longest ribs (state_of c.args.told) (given (goal.at.returns-in_default-2 c).Start) _ _ (omega arith) refl (sym c.kind_13.ensures ∙ c.in_default.is) _ c.in_ok-head_refusal_by.ensures
+    other_kind longest ribs (state_of c.args.told) (given (goal.at.returns-in_default-2 c).Start) _ _ (omega arith) refl (sym c.kind_13.ensures ∙ c.in_default.is) _ c.in_ok-head_refusal.ensures
     (no_one ribs c.in_default.field-0 (omega arith)) refl
 
 pub returns-in_default-told : goal.returns-in_default-told

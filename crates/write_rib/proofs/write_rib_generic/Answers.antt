@@ -13,19 +13,19 @@ use Rattle.std.specs.Prelude.{Err}
 use Rattle.room_spec.specs.Written.{Octets}
 use Rattle.write_rib.proofs.Laws.{generic_length, generic_laid}
 use borrow.Author.Rules.{rules}
-use Rattle.write_rib.proofs.write_rib_generic.Goals.{After-verdict_by, In_ok-written}
+use Rattle.write_rib.proofs.write_rib_generic.Goals.{After-verdict, In_ok-written}
 use Rattle.write_rib.proofs.write_rib_generic.Goals as goal
 
-abbrev given : After-verdict_by → Given
+abbrev given : After-verdict → Given
 given c =
     let a = c.args in rib_generic_given a.timestamp a.sequence a.family a.safi a.bits a.prefix.now a.count a.entries.now
 
-long : (c : After-verdict_by) → let given : (Given) = let a = c.args in rib_generic_given a.timestamp a.sequence a.family a.safi a.bits a.prefix.now a.count a.entries.now in let a = c.args in length a.prefix.now + length a.entries.now + 10 ≡ length (message given)
+long : (c : After-verdict) → let given : (Given) = let a = c.args in rib_generic_given a.timestamp a.sequence a.family a.safi a.bits a.prefix.now a.count a.entries.now in let a = c.args in length a.prefix.now + length a.entries.now + 10 ≡ length (message given)
 long c =
     let given : (Given) = let a = c.args in rib_generic_given a.timestamp a.sequence a.family a.safi a.bits a.prefix.now a.count a.entries.now in
     let a = c.args in generic_length a.timestamp a.sequence a.family a.safi a.bits a.prefix.now a.count a.entries.now
 
-sized : (c : After-verdict_by) → let given : (Given) = let a = c.args in rib_generic_given a.timestamp a.sequence a.family a.safi a.bits a.prefix.now a.count a.entries.now in c.saturating_add-size.result ≡ capped (length (message given))
+sized : (c : After-verdict) → let given : (Given) = let a = c.args in rib_generic_given a.timestamp a.sequence a.family a.safi a.bits a.prefix.now a.count a.entries.now in c.saturating_add-size.result ≡ capped (length (message given))
 sized c =
     let given : (Given) = let a = c.args in rib_generic_given a.timestamp a.sequence a.family a.safi a.bits a.prefix.now a.count a.entries.now in
     let long : (let a = c.args in length a.prefix.now + length a.entries.now + 10 ≡ length (message given)) = let a = c.args in generic_length a.timestamp a.sequence a.family a.safi a.bits a.prefix.now a.count a.entries.now in
@@ -54,7 +54,7 @@ returns-in_err-written c =
     let a = c.args in
     let why = c.in_err-written.field-0.0 in
     let passed : c.from_residual.result ≡ Err why = search rules in
-    refuses _ (state_of a.told) (given (goal.at.returns-in_err-written c).After-verdict_by) a.out.now _ _ _ _ refl (sized (goal.at.returns-in_err-written c).After-verdict_by) refl (passed ∙ c.in_err-written.ensures _ (c.generic_rib_refusal-fields.ensures _)) why passed
+    refuses _ (state_of a.told) (given (goal.at.returns-in_err-written c).After-verdict) a.out.now _ _ _ _ refl (sized (goal.at.returns-in_err-written c).After-verdict) refl (passed ∙ c.in_err-written.ensures _ (c.generic_rib_refusal-fields.ensures _)) why passed
 
 pub put_head-requires : goal.put_head-requires
 put_head-requires c = let r = room (goal.at.put_head-requires c).In_ok-written in search rules
@@ -75,6 +75,6 @@ pub returns : goal.returns
 returns c =
     let a = c.args in
     let s = (fine 0 (goal.at.returns c).In_ok-written).space in
-    let h : 12 + length (message (given (goal.at.returns c).After-verdict_by)) ≤ length c.put_head.new.out = search rules in
-    done _ (state_of a.told) (given (goal.at.returns c).After-verdict_by) a.out.now _ _ _ _ (fine _ (goal.at.returns c).In_ok-written) c.put_head.ensures
+    let h : 12 + length (message (given (goal.at.returns c).After-verdict)) ≤ length c.put_head.new.out = search rules in
+    done _ (state_of a.told) (given (goal.at.returns c).After-verdict) a.out.now _ _ _ _ (fine _ (goal.at.returns c).In_ok-written) c.put_head.ensures
     (generic_laid a.timestamp a.sequence a.family a.safi a.bits a.prefix.now a.count a.entries.now _ _ _ _ _ c.put_number.ensures c.put_number-2.ensures c.put_number-3.ensures c.put_entries.ensures h)

@@ -16,15 +16,15 @@ use Rattle.std.specs.Prelude.{Err}
 use Rattle.room_spec.specs.Written.{Octets}
 use Rattle.write_unread.proofs.Laws.{message_long}
 use borrow.Author.Rules.{rules}
-use Rattle.write_unread.proofs.write_unread.Goals.{After-verdict_by, In_ok-written}
+use Rattle.write_unread.proofs.write_unread.Goals.{After-verdict, In_ok-written}
 use Rattle.write_unread.proofs.write_unread.Goals as goal
 
-abbrev given : After-verdict_by → Given
+abbrev given : After-verdict → Given
 given c =
     let a = c.args in unread_given a.time a.ty a.subtype a.contents.now
 
 -- the message's length, as it is added up
-sized : (c : After-verdict_by) → let given : (Given) = let a = c.args in unread_given a.time a.ty a.subtype a.contents.now in c.saturating_add-size.result ≡ capped (length (message given))
+sized : (c : After-verdict) → let given : (Given) = let a = c.args in unread_given a.time a.ty a.subtype a.contents.now in c.saturating_add-size.result ≡ capped (length (message given))
 sized c =
     let given : (Given) = let a = c.args in unread_given a.time a.ty a.subtype a.contents.now in
     let a = c.args in
@@ -52,7 +52,7 @@ returns-in_err-written c =
     let a = c.args in
     let why = c.in_err-written.field-0.0 in
     let passed : c.from_residual.result ≡ Err why = search rules in
-    refuses _ _ (given (goal.at.returns-in_err-written c).After-verdict_by) c.args.out.now _ _ _ _ refl (sized (goal.at.returns-in_err-written c).After-verdict_by) refl (passed ∙ c.in_err-written.ensures _ (c.unread_refusal.ensures _ a.contents.now)) why passed
+    refuses _ _ (given (goal.at.returns-in_err-written c).After-verdict) c.args.out.now _ _ _ _ refl (sized (goal.at.returns-in_err-written c).After-verdict) refl (passed ∙ c.in_err-written.ensures _ (c.unread_refusal.ensures _ a.contents.now)) why passed
 
 pub put_head-requires : goal.put_head-requires
 put_head-requires c = let s = space (goal.at.put_head-requires c).In_ok-written in search rules
