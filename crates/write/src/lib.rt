@@ -22,7 +22,10 @@ pub fn fits(v: u64, width: usize) -> Result<(), Fault>
     ensures { result ≡ judged (put.large width v) }
 {
     if large(v, width) {
-        return Err(Fault { number: 6, place: 0 });
+        return Err(Fault {
+            number: 6,
+            place: 0,
+        });
     }
     Ok(())
 }
@@ -32,10 +35,16 @@ pub fn sized(has: usize, size: usize) -> Result<(), Fault>
     ensures { result ≡ judged (put.sized has size) }
 {
     if has < size {
-        return Err(Fault { number: 5, place: 0 });
+        return Err(Fault {
+            number: 5,
+            place: 0,
+        });
     }
     if size < has {
-        return Err(Fault { number: 6, place: 0 });
+        return Err(Fault {
+            number: 6,
+            place: 0,
+        });
     }
     Ok(())
 }
@@ -92,13 +101,23 @@ pub fn verdict(fields: Result<(), Fault>, size: usize, room: usize) -> Result<us
     ensures { (n : ℕ) → unplaced fields ≡ judged n → result ≡ verdict_of n size room }
 {
     if let Err(why) = fields {
-        return Err(Fault { number: why.number, place: 0 });
+        let refused = Fault {
+            number: why.number,
+            place: 0,
+        };
+        return Err(refused);
     }
     if 4294967295 < size {
-        return Err(Fault { number: 6, place: 0 });
+        return Err(Fault {
+            number: 6,
+            place: 0,
+        });
     }
     if room < 12 + size {
-        return Err(Fault { number: 15, place: 0 });
+        return Err(Fault {
+            number: 15,
+            place: 0,
+        });
     }
     Ok(12 + size)
 }

@@ -22,7 +22,7 @@ use Rattle.write_spec.specs.Givens.{bgp_values}
 use Rattle.record_spec.specs.Answer.{fault}
 use Rattle.form_spec.specs.Refusal.{refused}
 use Rattle.form_spec.specs.declared.Fault.{Fault}
-use Rattle.std.specs.Prelude.{Option, Some, None, Result, Ok, Err}
+use Rattle.std.specs.Prelude.{Option, Some, None, Ok, Err}
 use Rattle.record_spec.specs.declared.Body.{Body}
 use Rattle.record_spec.specs.declared.Body.TheVariants.{Message}
 use Rattle.write_spec.specs.Judged.{judged}

@@ -16,8 +16,8 @@ ghost use Rattle.write_spec.specs.Verdict.{Writes, capped};
 ghost use Rattle.write_spec.specs.Judged.{judged, unplaced};
 ghost use Rattle.write_bgp.specs.Opening.{opening_values, opening_size};
 
-use form_spec::Fault;
 use bgp::message_at;
+use form_spec::Fault;
 use kind::kind_16;
 use octets::{put_bytes, put_number};
 use page_spec::{Kind, LONGEST_MESSAGE};
@@ -33,7 +33,10 @@ fn state_refusal(number: u64) -> Result<(), Fault>
 {
     fits(number, 2)?;
     if number < 1 || 6 < number {
-        return Err(Fault { number: 9, place: 0 });
+        return Err(Fault {
+            number: 9,
+            place: 0,
+        });
     }
     Ok(())
 }
@@ -91,7 +94,10 @@ fn session_refusal(
     if family == 2 {
         return addresses_refusal(16, theirs, ours);
     }
-    Err(Fault { number: 7, place: 0 })
+    Err(Fault {
+        number: 7,
+        place: 0,
+    })
 }
 
 // All but the Length and the room.
@@ -111,7 +117,10 @@ fn change_refusal(
 {
     head_refusal(seconds(time), subtype)?;
     let Ok(Kind::Change(_, width)) = kind_16(micro(time), subtype) else {
-        return Err(Fault { number: 4, place: 0 });
+        return Err(Fault {
+            number: 4,
+            place: 0,
+        });
     };
     stamp_refusal(time)?;
     session_refusal(width, peer, local, interface, family, theirs, ours)?;
@@ -136,7 +145,10 @@ fn bgp_refusal(
 {
     head_refusal(seconds(time), subtype)?;
     let Ok(Kind::Message(_, width)) = kind_16(micro(time), subtype) else {
-        return Err(Fault { number: 4, place: 0 });
+        return Err(Fault {
+            number: 4,
+            place: 0,
+        });
     };
     stamp_refusal(time)?;
     session_refusal(width, peer, local, interface, family, theirs, ours)?;
@@ -188,7 +200,9 @@ fn opening_size(time: Time, width: usize, theirs: &[u8], ours: &[u8]) -> usize
     ensures { result ≡ capped (opening_size time width theirs.now ours.now) }
 {
     let fixed = micro(time) + 2 * width + 4;
-    fixed.saturating_add(theirs.len()).saturating_add(ours.len())
+    fixed
+        .saturating_add(theirs.len())
+        .saturating_add(ours.len())
 }
 
 // Lays the microseconds and the session from 12 on; answers where the message goes on.

@@ -67,17 +67,6 @@ says zero m xs out e = go (ltb 4294967295 (capped (length m))) (ltb (length out)
 
 -- ---- the verdict's own ways out
 
-pub refused_first : (n size room : ℕ) → 0 < n → refused n 0 ≡ verdict_of n size room
-unfolding verdict_of
-refused_first zero size room h = absurd (omega arith)
-refused_first (suc n) size room h = refl
-
-pub refused_not : (n size room : ℕ) (x : Written) → n ≤ 0 → x ≡ choose (ltb 4294967295 size) (refused 6 0) (choose (ltb room (12 + size)) (refused 15 0) (Octets (12 + size))) → x ≡ verdict_of n size room
-unfolding verdict_of
-refused_not zero size room x h e = e
-refused_not (suc n) size room x h e = absurd (omega arith)
-
--- the same, of fields that are judged
 pub fault_first : (n size room : ℕ) (why : Fault) → Err why ≡ judged n → refused why.number 0 ≡ verdict_of n size room
 unfolding verdict_of
 fault_first zero size room why e = cc

@@ -33,7 +33,10 @@ fn front_refusal(collector: u64, name: &[u8]) -> Result<(), Fault>
     fits(collector, 4)?;
     fits(name.len() as u64, 2)?;
     if !is_text(name) {
-        return Err(Fault { number: 17, place: 0 });
+        return Err(Fault {
+            number: 17,
+            place: 0,
+        });
     }
     Ok(())
 }

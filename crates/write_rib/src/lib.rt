@@ -36,7 +36,10 @@ fn prefix_refusal(most: u64, bits: u64, octets: &[u8]) -> Result<(), Fault>
 {
     fits(bits, 1)?;
     if most < bits {
-        return Err(Fault { number: 8, place: 0 });
+        return Err(Fault {
+            number: 8,
+            place: 0,
+        });
     }
     let size = ((bits + 7) / 8) as usize;
     sized(octets.len(), size)
@@ -57,10 +60,16 @@ fn rib_refusal(
 {
     head_refusal(timestamp, subtype)?;
     let Ok(Kind::Rib(most)) = kind_13(subtype) else {
-        return Err(Fault { number: 4, place: 0 });
+        return Err(Fault {
+            number: 4,
+            place: 0,
+        });
     };
     let Some(peers) = told else {
-        return Err(Fault { number: 12, place: 0 });
+        return Err(Fault {
+            number: 12,
+            place: 0,
+        });
     };
     fits(sequence, 4)?;
     prefix_refusal(most, bits, prefix)?;
@@ -80,11 +89,17 @@ fn generic_refusal(
     fits(sequence, 4)?;
     fits(family, 2)?;
     if family < 1 || 2 < family {
-        return Err(Fault { number: 7, place: 0 });
+        return Err(Fault {
+            number: 7,
+            place: 0,
+        });
     }
     fits(safi, 1)?;
     if safi < 1 || 2 < safi {
-        return Err(Fault { number: 7, place: 0 });
+        return Err(Fault {
+            number: 7,
+            place: 0,
+        });
     }
     if family <= 1 {
         return prefix_refusal(32, bits, prefix);
@@ -108,7 +123,10 @@ fn generic_rib_refusal(
 {
     head_refusal(timestamp, 6)?;
     let Some(peers) = told else {
-        return Err(Fault { number: 12, place: 0 });
+        return Err(Fault {
+            number: 12,
+            place: 0,
+        });
     };
     generic_refusal(sequence, family, safi, bits, prefix)?;
     entries_refusal(entries, count, peers)
@@ -170,7 +188,10 @@ pub fn write_rib_generic(
     let fields = generic_rib_refusal(
         timestamp, told, sequence, family, safi, bits, prefix, count, entries,
     );
-    let size = prefix.len().saturating_add(entries.len()).saturating_add(10);
+    let size = prefix
+        .len()
+        .saturating_add(entries.len())
+        .saturating_add(10);
     let written = verdict(fields, size, out.len())?;
     put_head(out, timestamp, 13, 6, size as u64);
     put_number(out, 12, 4, sequence);

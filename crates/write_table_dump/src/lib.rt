@@ -36,7 +36,10 @@ fn rest_refusal(
     fits(peer, 2)?;
     fits(attributes.len() as u64, 2)?;
     if !attr::tile(attributes) {
-        return Err(Fault { number: 11, place: 0 });
+        return Err(Fault {
+            number: 11,
+            place: 0,
+        });
     }
     Ok(())
 }
@@ -61,7 +64,10 @@ fn route_refusal(
     sized(prefix.len(), size)?;
     fits(bits, 1)?;
     if ((8 * size) as u64) < bits {
-        return Err(Fault { number: 8, place: 0 });
+        return Err(Fault {
+            number: 8,
+            place: 0,
+        });
     }
     rest_refusal(size, status, originated, address, peer, attributes)
 }
@@ -84,7 +90,10 @@ fn dump_refusal(
 {
     head_refusal(timestamp, subtype)?;
     let Ok(Kind::TableDump(size)) = kind_12(subtype) else {
-        return Err(Fault { number: 4, place: 0 });
+        return Err(Fault {
+            number: 4,
+            place: 0,
+        });
     };
     route_refusal(
         size, view, sequence, prefix, bits, status, originated, address, peer, attributes,
@@ -148,7 +157,10 @@ pub fn write_table_dump(
         timestamp, subtype, view, sequence, prefix, bits, status, originated, address, peer,
         attributes,
     );
-    let parts = prefix.len().saturating_add(address.len()).saturating_add(attributes.len());
+    let parts = prefix
+        .len()
+        .saturating_add(address.len())
+        .saturating_add(attributes.len());
     let size = parts.saturating_add(14);
     let written = verdict(fields, size, out.len())?;
     put_head(out, timestamp, 12, subtype, size as u64);

@@ -25,17 +25,29 @@ fn unread_refusal(time: Time, ty: u64, subtype: u64) -> Result<(), Fault>
     fits(seconds(time), 4)?;
     fits(ty, 2)?;
     let Ok(Kind::Unread(n)) = kind_of(ty, subtype) else {
-        return Err(Fault { number: 3, place: 0 });
+        return Err(Fault {
+            number: 3,
+            place: 0,
+        });
     };
     if n != micro(time) {
-        return Err(Fault { number: 3, place: 0 });
+        return Err(Fault {
+            number: 3,
+            place: 0,
+        });
     }
     fits(subtype, 2)?;
     stamp_refusal(time)
 }
 
 // A record of an unread type: with a Timestamp alone, or with microseconds too.
-pub fn write_unread(time: Time, ty: u64, subtype: u64, contents: &[u8], out: &mut [u8]) -> Result<usize, Fault>
+pub fn write_unread(
+    time: Time,
+    ty: u64,
+    subtype: u64,
+    contents: &[u8],
+    out: &mut [u8],
+) -> Result<usize, Fault>
     ensures { Writes (only_type (unreads (micro_size time)) longest_message) no_table (unread_given time ty subtype contents.now) out.old result out.new }
 {
     let size = micro(time).saturating_add(contents.len());

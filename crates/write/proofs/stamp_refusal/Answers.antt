@@ -1,6 +1,4 @@
 -- `write::stamp_refusal` meets its contract.
-use mathlib.Core.Path.{refl}
-use mathlib.Core.List.{[]}
 use Rattle.page_spec.specs.Layout.{stamped}
 use Rattle.form_spec.specs.Put.{refusal}
 use Rattle.write_laws.proofs.Judged.{stamp_alone}

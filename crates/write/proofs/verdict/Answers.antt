@@ -1,5 +1,4 @@
 -- `write::verdict` meets its contract.
-use mathlib.Core.Path.{◌≡◌}
 use Rattle.octets_laws.proofs.Rules.{flow}
 use Rattle.write_laws.proofs.Answers.{fault_first, fault_not}
 use Rattle.write.proofs.verdict.Goals as goal

@@ -1,20 +1,19 @@
 -- `write_bgp::bgp_refusal` meets its contract: the header, then the message's fields.
 use mathlib.Core.Path.{◌≡◌, refl, sym, ap, ◌∙◌}
-use mathlib.Core.List.{[], ◌∷◌, ◌++◌}
-use Prim.Native.Nat.{ℕ}
+use mathlib.Core.List.{[], ◌∷◌}
 use lib.Dec.{lit<}
 use Rattle.form_spec.specs.Fmt.{end}
-use Rattle.form_spec.specs.Put.{Given, or_else, large, refusal, body_refusal, fields_refusal}
+use Rattle.form_spec.specs.Put.{Given, or_else, refusal, body_refusal, fields_refusal}
 use Rattle.form_spec.specs.Shape.{no_table, plan}
 use Rattle.form_spec.specs.declared.Fault.{Fault}
 use Rattle.page_spec.specs.Bgp4mp.{session, message}
 use Rattle.page_spec.specs.Layout.{kind, layout_for, stamped}
 use Rattle.std.specs.Prelude.{Result, Ok, Err, ⊤}
 use Rattle.write_spec.specs.Judged.{judged, unplaced}
-use Rattle.write_spec.specs.Times.{stamp_of, micro_size, micros, bgp4mp}
+use Rattle.write_spec.specs.Times.{micro_size, micros, bgp4mp}
 use Rattle.write_spec.specs.Only.{as_octets, only_sub, messages}
 use Rattle.write_spec.specs.Givens.{session_values, bgp_values, message_given}
-use Rattle.write_laws.proofs.Judged.{then_ok, then_err, alike, stamp_then}
+use Rattle.write_laws.proofs.Judged.{then_ok, then_err, stamp_then}
 use Rattle.write_laws.proofs.Turns.{not_own, no_one, head_stops, other_kind, own_kind}
 use Rattle.write_bgp.proofs.Laws.{type-fits, Found, found, session_then}
 use borrow.Author.Rules.{rules}
@@ -34,8 +33,8 @@ kind_found c = found _ _ _ _ c.micro.ensures c.kind_16.ensures
 -- the header's fields are sound, and the kind is the writer's own: the microseconds, the session, and the rest
 passes : (y : Result ⊤ Fault) (c : In-Ok-Message) → let a = c.args in
     y ≡ judged (or_else (refusal (stamped (micro_size a.time) (end 0)) (micros a.time))
-        (or_else (refusal (session c.in-Ok-Message.width (end 0)) (session_values c.in-Ok-Message.width a.peer a.local a.interface a.family a.theirs.now a.ours.now []))
-        (refusal (message c.args.longest) (bgp_values a.message.now))))
+    (or_else (refusal (session c.in-Ok-Message.width (end 0)) (session_values c.in-Ok-Message.width a.peer a.local a.interface a.family a.theirs.now a.ours.now []))
+    (refusal (message c.args.longest) (bgp_values a.message.now))))
     → y ≡ judged (fields_refusal (only_sub messages c.args.longest) no_table (message_given a.time a.subtype a.peer a.local a.interface a.family a.theirs.now a.ours.now a.message.now))
 unfolding layout_for plan body_refusal
 passes y c h =
@@ -47,39 +46,39 @@ passes y c h =
     let head = rw c.seconds.ensures at c.in_ok-head_refusal.ensures in
     own_kind c.args.longest messages no_table (message_given a.time a.subtype a.peer a.local a.interface a.family a.theirs.now a.ours.now a.message.now) _ y (lit< tt) (type-fits a.time) (sym k.page ∙ e) _ head refl
     (rw (w, m) (h ∙ ap judged (ap (or_else (refusal (stamped (micro_size a.time) (end 0)) (micros a.time))) (session_then c.in-Ok-Message.width a.peer a.local a.interface a.family a.theirs.now a.ours.now (message c.args.longest) (bgp_values a.message.now))
-      ∙ stamp_then a.time (session c.in-Ok-Message.width (message c.args.longest)) (session_values c.in-Ok-Message.width a.peer a.local a.interface a.family a.theirs.now a.ours.now (bgp_values a.message.now)))))
+    ∙ stamp_then a.time (session c.in-Ok-Message.width (message c.args.longest)) (session_values c.in-Ok-Message.width a.peer a.local a.interface a.family a.theirs.now a.ours.now (bgp_values a.message.now)))))
 
 pub session_refusal-requires : goal.session_refusal-requires
 session_refusal-requires c = let s = rw (c.in-Ok-Message.is ∙ ap Ok c.in-Ok-Message.field-0-is) at (kind_found (goal.at.session_refusal-requires c).After-kind_16).sane in search rules
 
 pub returns-in_err-head_refusal : goal.returns-in_err-head_refusal
-returns-in_err-head_refusal c = 
+returns-in_err-head_refusal c =
     let passed : c.from_residual.result ≡ Err c.in_err-head_refusal.field-0.0 = search rules in
     let head = rw c.seconds.ensures at c.in_err-head_refusal.ensures in
     head_stops c.args.longest messages no_table (given (goal.at.returns-in_err-head_refusal c).Start) _ _ (lit< tt) (type-fits c.args.time) refl _ head (ap unplaced passed)
 
 pub returns-in_default : goal.returns-in_default
-returns-in_default c = 
+returns-in_default c =
     let head = rw c.seconds.ensures at c.in_ok-head_refusal.ensures in
     let other = not_own (0 ∷ 1 ∷ 2 ∷ 3 ∷ 4 ∷ 5 ∷ []) messages 6 _ refl tt (opened c.in_default.in_default-own.keys2) in
     other_kind c.args.longest messages no_table (given (goal.at.returns-in_default c).Start) _ _ (lit< tt) (type-fits c.args.time) (sym (kind_found (goal.at.returns-in_default c).After-kind_16).page ∙ c.kind_16.ensures ∙ sym c.in_default.ensures) _ head other refl
 
 pub returns-in_default-2 : goal.returns-in_default-2
-returns-in_default-2 c = 
+returns-in_default-2 c =
     let head = rw c.seconds.ensures at c.in_ok-head_refusal.ensures in
     let other = no_one messages c.in_default.field-0 (lit< tt) in
     other_kind c.args.longest messages no_table (given (goal.at.returns-in_default-2 c).Start) _ _ (lit< tt) (type-fits c.args.time) (sym (kind_found (goal.at.returns-in_default-2 c).After-kind_16).page ∙ c.in_default.is) _ head other refl
 
 pub returns-in_err-stamp_refusal : goal.returns-in_err-stamp_refusal
-returns-in_err-stamp_refusal c = 
+returns-in_err-stamp_refusal c =
     let passed : c.from_residual-in_err-stamp_refusal.result ≡ Err c.in_err-stamp_refusal.field-0.0 = search rules in
     passes _ (goal.at.returns-in_err-stamp_refusal c).In-Ok-Message (then_err _ _ _ _ c.in_err-stamp_refusal.ensures (ap unplaced passed))
 
 pub returns-in_err-session_refusal : goal.returns-in_err-session_refusal
-returns-in_err-session_refusal c = 
+returns-in_err-session_refusal c =
     let passed : c.from_residual-in_err-session_refusal.result ≡ Err c.in_err-session_refusal.field-0.0 = search rules in
     passes _ (goal.at.returns-in_err-session_refusal c).In-Ok-Message (then_ok _ _ _ _ c.in_ok-stamp_refusal.ensures (then_err _ _ _ _ c.in_err-session_refusal.ensures (ap unplaced passed)))
 
 pub returns : goal.returns
-returns c = 
+returns c =
     passes _ (goal.at.returns c).In-Ok-Message (then_ok _ _ _ _ c.in_ok-stamp_refusal.ensures (then_ok _ _ _ _ c.in_ok-session_refusal.ensures c.message_refusal.ensures))

@@ -1,20 +1,20 @@
 -- `write_bgp::change_refusal` meets its contract: the header, then the message's fields.
 use mathlib.Core.Path.{◌≡◌, refl, sym, ap, ◌∙◌}
-use mathlib.Core.List.{[], ◌∷◌, ◌++◌}
+use mathlib.Core.List.{[], ◌∷◌}
 use Prim.Native.Nat.{ℕ}
 use lib.Dec.{lit<}
 use Rattle.form_spec.specs.Fmt.{end}
-use Rattle.form_spec.specs.Put.{Given, or_else, large, refusal, body_refusal, fields_refusal}
+use Rattle.form_spec.specs.Put.{Given, or_else, refusal, body_refusal, fields_refusal}
 use Rattle.form_spec.specs.Shape.{no_table, plan}
 use Rattle.form_spec.specs.declared.Fault.{Fault}
 use Rattle.page_spec.specs.Bgp4mp.{session, state_change}
 use Rattle.page_spec.specs.Layout.{kind, layout_for, stamped}
 use Rattle.std.specs.Prelude.{Result, Ok, Err, ⊤}
 use Rattle.write_spec.specs.Judged.{judged, unplaced}
-use Rattle.write_spec.specs.Times.{stamp_of, micro_size, micros, bgp4mp}
+use Rattle.write_spec.specs.Times.{micro_size, micros, bgp4mp}
 use Rattle.write_spec.specs.Only.{as_octets, only_sub, changes}
 use Rattle.write_spec.specs.Givens.{session_values, state_values, change_given}
-use Rattle.write_laws.proofs.Judged.{then_ok, then_err, alike, stamp_then}
+use Rattle.write_laws.proofs.Judged.{then_ok, then_err, stamp_then}
 use Rattle.write_laws.proofs.Turns.{not_own, no_one, head_stops, other_kind, own_kind}
 use Rattle.write_bgp.proofs.Laws.{type-fits, Found, found, session_then, states_then}
 use borrow.Author.Rules.{rules}
@@ -34,8 +34,8 @@ kind_found c = found _ _ _ _ c.micro.ensures c.kind_16.ensures
 -- the header's fields are sound, and the kind is the writer's own: the microseconds, the session, and the rest
 passes : (longest : ℕ) (y : Result ⊤ Fault) (c : In-Ok-Change) → let a = c.args in
     y ≡ judged (or_else (refusal (stamped (micro_size a.time) (end 0)) (micros a.time))
-        (or_else (refusal (session c.in-Ok-Change.width (end 0)) (session_values c.in-Ok-Change.width a.peer a.local a.interface a.family a.theirs.now a.ours.now []))
-        (refusal state_change (state_values a.old a.new))))
+    (or_else (refusal (session c.in-Ok-Change.width (end 0)) (session_values c.in-Ok-Change.width a.peer a.local a.interface a.family a.theirs.now a.ours.now []))
+    (refusal state_change (state_values a.old a.new))))
     → y ≡ judged (fields_refusal (only_sub changes longest) no_table (change_given a.time a.subtype a.peer a.local a.interface a.family a.theirs.now a.ours.now a.old a.new))
 unfolding layout_for plan body_refusal
 passes longest y c h =
@@ -47,7 +47,7 @@ passes longest y c h =
     let head = rw c.seconds.ensures at c.in_ok-head_refusal.ensures in
     own_kind longest changes no_table (change_given a.time a.subtype a.peer a.local a.interface a.family a.theirs.now a.ours.now a.old a.new) _ y (lit< tt) (type-fits a.time) (sym k.page ∙ e) _ head refl
     (rw (w, m) (h ∙ ap judged (ap (or_else (refusal (stamped (micro_size a.time) (end 0)) (micros a.time))) (session_then c.in-Ok-Change.width a.peer a.local a.interface a.family a.theirs.now a.ours.now state_change (state_values a.old a.new))
-      ∙ stamp_then a.time (session c.in-Ok-Change.width state_change) (session_values c.in-Ok-Change.width a.peer a.local a.interface a.family a.theirs.now a.ours.now (state_values a.old a.new)))))
+    ∙ stamp_then a.time (session c.in-Ok-Change.width state_change) (session_values c.in-Ok-Change.width a.peer a.local a.interface a.family a.theirs.now a.ours.now (state_values a.old a.new)))))
 
 pub session_refusal-requires : goal.session_refusal-requires
 session_refusal-requires c = let s = rw (c.in-Ok-Change.is ∙ ap Ok c.in-Ok-Change.field-0-is) at (kind_found (goal.at.session_refusal-requires c).After-kind_16).sane in search rules

@@ -1,6 +1,6 @@
 -- `write_unread::unread_refusal` meets its contract: the header's fields in turn.
-use mathlib.Core.Path.{◌≡◌, refl, sym, ap, ◌∙◌}
-use mathlib.Core.List.{List, [], ◌∷◌}
+use mathlib.Core.Path.{◌≡◌, sym, ap, ◌∙◌}
+use mathlib.Core.List.{[], ◌∷◌}
 use Prim.Native.Nat.{ℕ}
 use Rattle.form_spec.specs.Put.{type_refusal, fields_refusal}
 use Rattle.page_spec.specs.Layout.{layout_for}
