@@ -1,19 +1,53 @@
 // What every writer shares: the verdict, and a record's header laid into the buffer.
 #![tactic(auto)]
 
-ghost use Rattle.std.specs.Prelude.{◌≡◌, List, ◌++◌, ◌+◌, ◌≤◌, length};
+ghost use Rattle.std.specs.Prelude.{◌≡◌, ℕ, List, ◌++◌, ◌+◌, ◌≤◌, length};
 ghost use Rattle.form_spec.specs.Octets.{to_be};
-ghost use Rattle.form_spec.specs.Fmt.{Fmt, join};
-ghost use Rattle.form_spec.specs.Put.{Value, or_else, refusal, lay};
+ghost use Rattle.form_spec.specs.Fmt.{end, join};
+ghost use Rattle.form_spec.specs.Put.{or_else, refusal, lay};
 ghost use Rattle.form_spec.specs.Put as put;
 ghost use Rattle.page_spec.specs.Layout.{stamped};
 ghost use Rattle.octets_spec.specs.Over.{over};
 ghost use Rattle.write_spec.specs.Verdict.{capped, verdict_of};
+ghost use Rattle.write_spec.specs.Judged.{judged, unplaced};
 ghost use Rattle.write_spec.specs.Times.{stamp_of, micro_size, micros, bgp4mp};
 
 use form_spec::Fault;
 use octets::{large, put_number};
 use write_spec::Time;
+
+// A number goes into `width` octets.
+pub fn fits(v: u64, width: usize) -> Result<(), Fault>
+    requires { width ≤ 4 }
+    ensures { result ≡ judged (put.large width v) }
+{
+    if large(v, width) {
+        return Err(Fault {
+            number: 6,
+            place: 0,
+        });
+    }
+    Ok(())
+}
+
+// A part has as many octets as its field, which has `size`.
+pub fn sized(has: usize, size: usize) -> Result<(), Fault>
+    ensures { result ≡ judged (put.sized has size) }
+{
+    if has < size {
+        return Err(Fault {
+            number: 5,
+            place: 0,
+        });
+    }
+    if size < has {
+        return Err(Fault {
+            number: 6,
+            place: 0,
+        });
+    }
+    Ok(())
+}
 
 pub fn seconds(t: Time) -> u64
     ensures { result ≡ stamp_of t }
@@ -43,55 +77,35 @@ pub fn bgp_type(t: Time) -> u64
     }
 }
 
-// The microseconds, where there are any, before fields that are refused with `rest`.
-pub fn stamped_refusal(t: Time, rest: u8) -> u8
-    ensures { (f : Fmt) (vs : List Value) → rest ≡ refusal f vs → result ≡ refusal (stamped (micro_size t) f) (micros t ++ vs) }
+// The microseconds, where there are any.
+pub fn stamp_refusal(t: Time) -> Result<(), Fault>
+    ensures { result ≡ judged (refusal (stamped (micro_size t) (end 0)) (micros t)) }
 {
     match t {
-        Time::Seconds(_) => {
-            return rest;
-        }
-        Time::Micro(_, u) => {
-            if large(u, 4) {
-                return 6;
-            }
-            return rest;
-        }
+        Time::Seconds(_) => Ok(()),
+        Time::Micro(_, u) => fits(u, 4),
     }
-}
-
-// The sum, or the largest number where it is past that.
-pub fn add(a: usize, b: usize) -> usize
-    ensures { result ≡ capped (a + b) }
-{
-    if 18446744073709551615 - a < b {
-        return 18446744073709551615;
-    }
-    a + b
 }
 
 // The Timestamp and the Subtype, where the Type is listed.
-pub fn head_refusal(timestamp: u64, subtype: u64) -> u8
-    ensures { result ≡ or_else (put.large 4 timestamp) (put.large 2 subtype) }
+pub fn head_refusal(timestamp: u64, subtype: u64) -> Result<(), Fault>
+    ensures { result ≡ judged (or_else (put.large 4 timestamp) (put.large 2 subtype)) }
 {
-    if large(timestamp, 4) {
-        return 6;
-    }
-    if large(subtype, 2) {
-        return 6;
-    }
-    0
+    fits(timestamp, 4)?;
+    fits(subtype, 2)
 }
 
-// The answer of a writer that refuses its fields with `refused` (0: it does not), for a message of `size` octets and a buffer of `room`.
-pub fn verdict(refused: u8, size: usize, room: usize) -> Result<usize, Fault>
-    ensures { result ≡ verdict_of refused size room }
+// The answer of a writer whose fields are judged so, for a message of `size` octets and a buffer of `room`. A fault that a reader found
+// still has the reader's place; a refused record has the place 0.
+pub fn verdict(fields: Result<(), Fault>, size: usize, room: usize) -> Result<usize, Fault>
+    ensures { (n : ℕ) → unplaced fields ≡ judged n → result ≡ verdict_of n size room }
 {
-    if 0 < refused {
-        return Err(Fault {
-            number: refused,
+    if let Err(why) = fields {
+        let refused = Fault {
+            number: why.number,
             place: 0,
-        });
+        };
+        return Err(refused);
     }
     if 4294967295 < size {
         return Err(Fault {

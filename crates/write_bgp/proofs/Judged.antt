@@ -9,7 +9,7 @@ use lib.ListN.{length, take, drop, length-take, length-drop}
 use borrow.Author.Tests.{lt-ltb, le-ltb, ltb-true, ltb-false}
 use Rattle.form_spec.specs.Octets.{be}
 use Rattle.form_spec.specs.Fmt.{end, test}
-use Rattle.form_spec.specs.Pass.{Seen, note, pass, whole}
+use Rattle.form_spec.specs.Pass.{Seen, note, pass, whole, place_of, number_of}
 use Rattle.form_spec.specs.Put.{or_else, sized, refusal}
 use Rattle.form_spec.specs.Words.{choose, num, skip, must, area, in_range}
 use Rattle.page_spec.specs.Names.{marker, bgp_length, bgp_type, bgp_rest}
@@ -21,6 +21,12 @@ use Rattle.record_spec.specs.Shown.{Shown}
 use Rattle.write_spec.specs.Givens.{bgp_values}
 use Rattle.record_spec.specs.Answer.{fault}
 use Rattle.form_spec.specs.Refusal.{refused}
+use Rattle.form_spec.specs.declared.Fault.{Fault}
+use Rattle.std.specs.Prelude.{Option, Some, None, Ok, Err}
+use Rattle.record_spec.specs.declared.Body.{Body}
+use Rattle.record_spec.specs.declared.Body.TheVariants.{Message}
+use Rattle.write_spec.specs.Judged.{judged}
+use Rattle.write_laws.proofs.Judged.{whole_strict, by_number}
 
 -- n is the number of the refusal, or 0
 unfoldable Judged : ℕ → Shown → Type 0
@@ -120,6 +126,20 @@ writes longest b = go (ltb (length b) 16) (ltb (length b) 18) (ltb (length b) 19
         ending (length b) (n - 19) h
         ∙ sym (rw (there 16 0 b (ltb-false (length b) 16 p), there 2 16 b (ltb-false (length b) 18 q), there 1 18 b h, length-drop))
 
-pub judged : (longest : ℕ) (h : Header) (s : Session) (b : List ℕ) (x : Shown) → x ≡ whole (message_of h s) refused (message longest) b 0 → fault x ≡ refusal (message longest) (bgp_values b)
+by_reader : (longest : ℕ) (h : Header) (s : Session) (b : List ℕ) (x : Shown) → x ≡ whole (message_of h s) refused (message longest) b 0 → fault x ≡ refusal (message longest) (bgp_values b)
 unfolding Judged
-judged longest h s b x e = ap fault e ∙ reader longest h s b ∙ writes longest b
+by_reader longest h s b x e = ap fault e ∙ reader longest h s b ∙ writes longest b
+
+-- a message that the reader refuses, and one that it shows
+pub message_err : (longest : ℕ) (h : Header) (s : Session) (b : List ℕ) (why : Fault) → Err why ≡ whole (message_of h s) refused (message longest) b 0 → refused why.number 0 ≡ judged (refusal (message longest) (bgp_values b))
+message_err longest h s b why e = by_number (Err why) strict ∙ ap judged (by_reader longest h s b (Err why) e)
+  where
+    strict : 0 < why.number
+    strict = rw (← e) at (whole_strict {A = Option (Header × Body)} (λ fs. Some (h, Message s (record { message = record { at = place_of marker fs; size = number_of bgp_length fs }; kind = number_of bgp_type fs }))) (message longest) b 0)
+
+pub message_ok : (longest : ℕ) (h : Header) (s : Session) (b : List ℕ) (x : Option (Header × Body)) → Ok x ≡ whole (message_of h s) refused (message longest) b 0 → Ok tt ≡ judged (refusal (message longest) (bgp_values b))
+message_ok longest h s b x e = ap judged (unrefused x ∙ by_reader longest h s b (Ok x) e)
+  where
+    unrefused : (x : Option (Header × Body)) → 0 ≡ fault (Ok x)
+    unrefused None = refl
+    unrefused (Some y) = refl

@@ -1,5 +1,6 @@
 -- State changes and BGP messages as a writer has them: their kinds, and their octets.
 use mathlib.Core.Path.{◌≡◌, refl, sym, ap, ◌∙◌}
+use mathlib.Core.Bool.{Bool, true, false, cond}
 use mathlib.Core.List.{List, [], ◌∷◌, ◌++◌, append_assoc, append-nil}
 use Prim.Native.Nat.{ℕ, ◌+◌, ◌≤◌}
 use native.Mathlib.Omega.{arith}
@@ -7,10 +8,15 @@ use lib.ListN.{length, take, drop, length-append, take-append-drop}
 use lib.Seq.{drop-drop}
 use types.Run.{OneOf, miss}
 use denote.Enum.Declared.{tag_of}
-use Rattle.form_spec.specs.Fmt.{join}
-use Rattle.form_spec.specs.Put.{Value, lay, message, large}
-use Rattle.form_spec.specs.Words.{choose}
+use Rattle.form_spec.specs.Octets.{be, to_be}
+use Rattle.form_spec.specs.Fmt.{Fmt, end, join}
+use Rattle.form_spec.specs.Put.{Value, digits, bytes, misfit, or_else, refusal, lay, message, large}
+use Rattle.form_spec.specs.Words.{choose, num, skip, fail, checked, in_range}
 use Rattle.form_laws.proofs.Octets.{length-to_be}
+use lib.Dec.{eqb}
+use Rattle.page_spec.specs.Names.{old_state}
+use Rattle.page_spec.specs.Bgp4mp.{session, addresses, state, state_change}
+use Rattle.write_laws.proofs.Turns.{or_both}
 use Rattle.page_spec.specs.Layout.{kind, kind16}
 use Rattle.page_spec.specs.Chosen.{Chosen}
 use Rattle.page_spec.specs.contracts.Kind as declared
@@ -108,3 +114,43 @@ module _ (t : Time) (w p l i f : ℕ) (theirs ours : List ℕ) where
           length-append (join (lay (opening_values t w p l i f theirs ours))) (join (lay vs)),
           opened_long,
         )
+
+-- ---- the refusal of a session before other fields, and of two states
+
+shift : (m a b k : ℕ) → or_else a k ≡ b → or_else (or_else m a) k ≡ or_else m b
+shift m a b k e = or_both m a k ∙ ap (or_else m) e
+
+two : (m n k : ℕ) → or_else (or_else m (or_else n 0)) k ≡ or_else m (or_else n k)
+two m n k = shift m (or_else n 0) (or_else n k) k (shift n 0 k k refl)
+
+four : (m n o p a b k : ℕ) → or_else a k ≡ b → or_else (or_else m (or_else n (or_else o (or_else p a)))) k ≡ or_else m (or_else n (or_else o (or_else p b)))
+four m n o p a b k e =
+    shift m (or_else n (or_else o (or_else p a))) (or_else n (or_else o (or_else p b))) k
+    (shift n (or_else o (or_else p a)) (or_else o (or_else p b)) k (shift o (or_else p a) (or_else p b) k (shift p a b k e)))
+
+module _ (w p l i f : ℕ) (theirs ours : List ℕ) (g : Fmt) (vs : List Value) where
+  sized_then : (n : ℕ) → or_else (refusal (addresses n (end 0)) (bytes theirs ∷ bytes ours ∷ [])) (refusal g vs) ≡ refusal (addresses n g) (bytes theirs ∷ bytes ours ∷ vs)
+  unfolding addresses skip refusal
+  sized_then n = two (misfit (bytes theirs) n) (misfit (bytes ours) n) (refusal g vs)
+
+  -- behind the family, by whether it is 1 or 2
+  addressed : (s t : Bool) (h : Fmt) → Fmt
+  addressed s t h = choose s (addresses 4 h) (choose t (addresses 16 h) (fail 7 2))
+
+  addressed_then : (s t : Bool) → or_else (refusal (addressed s t (end 0)) (bytes theirs ∷ bytes ours ∷ [])) (refusal g vs) ≡ refusal (addressed s t g) (bytes theirs ∷ bytes ours ∷ vs)
+  unfolding addressed choose fail refusal
+  addressed_then true t = sized_then 4
+  addressed_then false true = sized_then 16
+  addressed_then false false = refl
+
+  pub session_then : or_else (refusal (session w (end 0)) (session_values w p l i f theirs ours [])) (refusal g vs) ≡ refusal (session w g) (session_values w p l i f theirs ours vs)
+  unfolding session num refusal addressed
+  session_then =
+      let s : Bool = eqb (be (to_be 2 f)) 1 in
+      let t : Bool = eqb (be (to_be 2 f)) 2 in
+      four (misfit (digits w p) w) (misfit (digits w l) w) (misfit (digits 2 i) 2) (misfit (digits 2 f) 2)
+      (refusal (addressed s t (end 0)) (bytes theirs ∷ bytes ours ∷ [])) (refusal (addressed s t g) (bytes theirs ∷ bytes ours ∷ vs)) (refusal g vs) (addressed_then s t)
+
+pub states_then : (o n : ℕ) → or_else (refusal (state old_state (end 0)) (digits 2 o ∷ [])) (refusal (state old_state (end 0)) (digits 2 n ∷ [])) ≡ refusal state_change (state_values o n)
+unfolding state_change state checked refusal
+states_then o n = two (misfit (digits 2 o) 2) (cond (in_range 1 (be (to_be 2 o)) 6) 0 9) (refusal (state old_state (end 0)) (digits 2 n ∷ []))

@@ -1,57 +1,49 @@
 // Writing types 16 and 17: state changes and BGP messages.
 #![tactic(auto)]
 
-ghost use Rattle.std.specs.Prelude.{◌≡◌, List, [], ◌∷◌, ℕ, ◌+◌, ◌≤◌, length};
-ghost use Rattle.form_spec.specs.Fmt.{Fmt, join};
-ghost use Rattle.form_spec.specs.Put.{Value, bytes, refusal, lay, fields_refusal};
+ghost use Rattle.std.specs.Prelude.{◌≡◌, [], ◌∷◌, ℕ, ◌+◌, ◌≤◌, length};
+ghost use Rattle.form_spec.specs.Fmt.{end, join};
+ghost use Rattle.form_spec.specs.Put.{digits, bytes, refusal, lay, fields_refusal};
 ghost use Rattle.form_spec.specs.Shape.{no_table};
-ghost use Rattle.page_spec.specs.Bgp4mp.{longest_message, session, addresses, state_change, message};
+ghost use Rattle.page_spec.specs.Bgp4mp.{longest_message, session, addresses, state, message};
 ghost use Rattle.octets_spec.specs.Over.{over};
 ghost use Rattle.page_spec.specs.Layout.{kind};
+ghost use Rattle.page_spec.specs.Names.{old_state};
 ghost use Rattle.write_spec.specs.Times.{bgp4mp};
 ghost use Rattle.write_spec.specs.Only.{only_sub, changes, messages, as_octets};
 ghost use Rattle.write_spec.specs.Givens.{session_values, state_values, bgp_values, change_given, message_given};
 ghost use Rattle.write_spec.specs.Verdict.{Writes, capped};
+ghost use Rattle.write_spec.specs.Judged.{judged, unplaced};
 ghost use Rattle.write_bgp.specs.Opening.{opening_values, opening_size};
 
 use bgp::message_at;
 use form_spec::Fault;
 use kind::kind_16;
-use octets::{large, put_bytes, put_number};
+use octets::{put_bytes, put_number};
 use page_spec::{Kind, LONGEST_MESSAGE};
 use record_spec::{Header, Part, Session};
 use write::{
-    add, bgp_type, head_refusal, micro, put_head, put_micros, seconds, stamped_refusal, verdict,
+    bgp_type, fits, head_refusal, micro, put_head, put_micros, seconds, sized, stamp_refusal,
+    verdict,
 };
 use write_spec::Time;
 
-fn states_refusal(old: u64, new: u64) -> u8
-    ensures { result ≡ refusal state_change (state_values old new) }
+fn state_refusal(number: u64) -> Result<(), Fault>
+    ensures { unplaced result ≡ judged (refusal (state old_state (end 0)) (digits 2 number ∷ [])) }
 {
-    if large(old, 2) {
-        return 6;
+    fits(number, 2)?;
+    if number < 1 || 6 < number {
+        return Err(Fault {
+            number: 9,
+            place: 0,
+        });
     }
-    if old < 1 {
-        return 9;
-    }
-    if 6 < old {
-        return 9;
-    }
-    if large(new, 2) {
-        return 6;
-    }
-    if new < 1 {
-        return 9;
-    }
-    if 6 < new {
-        return 9;
-    }
-    0
+    Ok(())
 }
 
 // A BGP message of at most `longest` octets is judged by the reader, as it stands.
-fn message_refusal(longest: u64, b: &[u8]) -> u8
-    ensures { result ≡ refusal (message longest) (bgp_values b.now) }
+fn message_refusal(longest: u64, b: &[u8]) -> Result<(), Fault>
+    ensures { unplaced result ≡ judged (refusal (message longest) (bgp_values b.now)) }
 {
     let none = Part { at: 0, size: 0 };
     let h = Header {
@@ -69,32 +61,17 @@ fn message_refusal(longest: u64, b: &[u8]) -> u8
         theirs: none,
         ours: none,
     };
-    match message_at(b, 0, longest, h, s) {
-        Ok(_) => 0,
-        Err(f) => f.number,
-    }
+    message_at(b, 0, longest, h, s)?;
+    Ok(())
 }
 
-// The addresses, before fields that are refused with `rest`.
-fn addresses_refusal(size: usize, theirs: &[u8], ours: &[u8], rest: u8) -> u8
-    ensures { (f : Fmt) (vs : List Value) → rest ≡ refusal f vs → result ≡ refusal (addresses size f) (bytes theirs.now ∷ bytes ours.now ∷ vs) }
+fn addresses_refusal(size: usize, theirs: &[u8], ours: &[u8]) -> Result<(), Fault>
+    ensures { unplaced result ≡ judged (refusal (addresses size (end 0)) (bytes theirs.now ∷ bytes ours.now ∷ [])) }
 {
-    if theirs.len() < size {
-        return 5;
-    }
-    if size < theirs.len() {
-        return 6;
-    }
-    if ours.len() < size {
-        return 5;
-    }
-    if size < ours.len() {
-        return 6;
-    }
-    rest
+    sized(theirs.len(), size)?;
+    sized(ours.len(), size)
 }
 
-// A session, before fields that are refused with `rest`.
 fn session_refusal(
     width: usize,
     peer: u64,
@@ -103,33 +80,27 @@ fn session_refusal(
     family: u64,
     theirs: &[u8],
     ours: &[u8],
-    rest: u8,
-) -> u8
+) -> Result<(), Fault>
     requires { width ≤ 4 }
-    ensures { (f : Fmt) (vs : List Value) → rest ≡ refusal f vs → result ≡ refusal (session width f) (session_values width peer local interface family theirs.now ours.now vs) }
+    ensures { unplaced result ≡ judged (refusal (session width (end 0)) (session_values width peer local interface family theirs.now ours.now [])) }
 {
-    if large(peer, width) {
-        return 6;
-    }
-    if large(local, width) {
-        return 6;
-    }
-    if large(interface, 2) {
-        return 6;
-    }
-    if large(family, 2) {
-        return 6;
-    }
+    fits(peer, width)?;
+    fits(local, width)?;
+    fits(interface, 2)?;
+    fits(family, 2)?;
     if family == 1 {
-        return addresses_refusal(4, theirs, ours, rest);
+        return addresses_refusal(4, theirs, ours);
     }
     if family == 2 {
-        return addresses_refusal(16, theirs, ours, rest);
+        return addresses_refusal(16, theirs, ours);
     }
-    7
+    Err(Fault {
+        number: 7,
+        place: 0,
+    })
 }
 
-// The number for all but the Length and the room.
+// All but the Length and the room.
 fn change_refusal(
     time: Time,
     subtype: u64,
@@ -141,27 +112,23 @@ fn change_refusal(
     ours: &[u8],
     old: u64,
     new: u64,
-) -> u8
-    ensures { (longest : ℕ) → result ≡ fields_refusal (only_sub changes longest) no_table (change_given time subtype peer local interface family theirs.now ours.now old new) }
+) -> Result<(), Fault>
+    ensures { (longest : ℕ) → unplaced result ≡ judged (fields_refusal (only_sub changes longest) no_table (change_given time subtype peer local interface family theirs.now ours.now old new)) }
 {
-    let n = head_refusal(seconds(time), subtype);
-    if 0 < n {
-        return n;
-    }
-    let Ok(listed) = kind_16(micro(time), subtype) else {
-        return 4;
+    head_refusal(seconds(time), subtype)?;
+    let Ok(Kind::Change(_, width)) = kind_16(micro(time), subtype) else {
+        return Err(Fault {
+            number: 4,
+            place: 0,
+        });
     };
-    let Kind::Change(_, width) = listed else {
-        return 4;
-    };
-    let states = states_refusal(old, new);
-    stamped_refusal(
-        time,
-        session_refusal(width, peer, local, interface, family, theirs, ours, states),
-    )
+    stamp_refusal(time)?;
+    session_refusal(width, peer, local, interface, family, theirs, ours)?;
+    state_refusal(old)?;
+    state_refusal(new)
 }
 
-// The number for all but the Length and the room.
+// All but the Length and the room.
 fn bgp_refusal(
     longest: u64,
     time: Time,
@@ -173,24 +140,19 @@ fn bgp_refusal(
     theirs: &[u8],
     ours: &[u8],
     message: &[u8],
-) -> u8
-    ensures { result ≡ fields_refusal (only_sub messages longest) no_table (message_given time subtype peer local interface family theirs.now ours.now message.now) }
+) -> Result<(), Fault>
+    ensures { unplaced result ≡ judged (fields_refusal (only_sub messages longest) no_table (message_given time subtype peer local interface family theirs.now ours.now message.now)) }
 {
-    let n = head_refusal(seconds(time), subtype);
-    if 0 < n {
-        return n;
-    }
-    let Ok(listed) = kind_16(micro(time), subtype) else {
-        return 4;
+    head_refusal(seconds(time), subtype)?;
+    let Ok(Kind::Message(_, width)) = kind_16(micro(time), subtype) else {
+        return Err(Fault {
+            number: 4,
+            place: 0,
+        });
     };
-    let Kind::Message(_, width) = listed else {
-        return 4;
-    };
-    let rest = message_refusal(longest, message);
-    stamped_refusal(
-        time,
-        session_refusal(width, peer, local, interface, family, theirs, ours, rest),
-    )
+    stamp_refusal(time)?;
+    session_refusal(width, peer, local, interface, family, theirs, ours)?;
+    message_refusal(longest, message)
 }
 
 // Lays a session from `at` on; answers where it ends.
@@ -225,12 +187,9 @@ fn put_session(
 fn width_of(time: Time, subtype: u64) -> usize
     ensures { (result ≡ as_octets (kind (bgp4mp time) subtype)) × (result ≤ 4) }
 {
-    let Ok(listed) = kind_16(micro(time), subtype) else {
-        return 0;
-    };
-    match listed {
-        Kind::Change(_, width) => width,
-        Kind::Message(_, width) => width,
+    match kind_16(micro(time), subtype) {
+        Ok(Kind::Change(_, width)) => width,
+        Ok(Kind::Message(_, width)) => width,
         _ => 0,
     }
 }
@@ -241,7 +200,9 @@ fn opening_size(time: Time, width: usize, theirs: &[u8], ours: &[u8]) -> usize
     ensures { result ≡ capped (opening_size time width theirs.now ours.now) }
 {
     let fixed = micro(time) + 2 * width + 4;
-    add(add(fixed, theirs.len()), ours.len())
+    fixed
+        .saturating_add(theirs.len())
+        .saturating_add(ours.len())
 }
 
 // Lays the microseconds and the session from 12 on; answers where the message goes on.
@@ -288,12 +249,12 @@ pub fn write_change(
 ) -> Result<usize, Fault>
     ensures { Writes (only_sub changes longest_message) no_table (change_given time subtype peer local interface family theirs.now ours.now old new) out.old result out.new }
 {
-    let n = change_refusal(
+    let fields = change_refusal(
         time, subtype, peer, local, interface, family, theirs, ours, old, new,
     );
     let w = width_of(time, subtype);
-    let size = add(opening_size(time, w, theirs, ours), 4);
-    let written = verdict(n, size, out.len())?;
+    let size = opening_size(time, w, theirs, ours).saturating_add(4);
+    let written = verdict(fields, size, out.len())?;
     put_head(out, seconds(time), bgp_type(time), subtype, size as u64);
     let at = put_opening(out, time, w, peer, local, interface, family, theirs, ours);
     put_states(out, at, old, new);
@@ -316,12 +277,12 @@ fn write_message_with(
 ) -> Result<usize, Fault>
     ensures { Writes (only_sub messages longest) no_table (message_given time subtype peer local interface family theirs.now ours.now message.now) out.old result out.new }
 {
-    let n = bgp_refusal(
+    let fields = bgp_refusal(
         longest, time, subtype, peer, local, interface, family, theirs, ours, message,
     );
     let w = width_of(time, subtype);
-    let size = add(opening_size(time, w, theirs, ours), message.len());
-    let written = verdict(n, size, out.len())?;
+    let size = opening_size(time, w, theirs, ours).saturating_add(message.len());
+    let written = verdict(fields, size, out.len())?;
     put_head(out, seconds(time), bgp_type(time), subtype, size as u64);
     let at = put_opening(out, time, w, peer, local, interface, family, theirs, ours);
     put_bytes(message, out, at);

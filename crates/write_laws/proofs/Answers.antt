@@ -23,7 +23,9 @@ use Rattle.room_spec.specs.Written.{Written, Octets}
 use Rattle.room_laws.proofs.Room.{Right, answers, faulty, fits-laid, long}
 use Rattle.write_laws.proofs.Sums.{cap}
 use Rattle.form_spec.specs.Refusal.{refused}
-use Rattle.std.specs.Prelude.{Err}
+use Rattle.std.specs.Prelude.{Ok, Err, ⊤}
+use Rattle.write_spec.specs.Judged.{judged}
+use Rattle.write_laws.proofs.Judged.{stops}
 use Rattle.form_spec.specs.declared.Fault.{Fault}
 
 length-octets : (g : Given) → length (octets g) ≡ 12 + length (message g)
@@ -65,15 +67,15 @@ says zero m xs out e = go (ltb 4294967295 (capped (length m))) (ltb (length out)
 
 -- ---- the verdict's own ways out
 
-pub refused_first : (n size room : ℕ) → 0 < n → refused n 0 ≡ verdict_of n size room
+pub fault_first : (n size room : ℕ) (why : Fault) → Err why ≡ judged n → refused why.number 0 ≡ verdict_of n size room
 unfolding verdict_of
-refused_first zero size room h = absurd (omega arith)
-refused_first (suc n) size room h = refl
+fault_first zero size room why e = cc
+fault_first (suc n) size room why e = rw (stops (suc n) why e).same
 
-pub refused_not : (n size room : ℕ) (x : Written) → n ≤ 0 → x ≡ choose (ltb 4294967295 size) (refused 6 0) (choose (ltb room (12 + size)) (refused 15 0) (Octets (12 + size))) → x ≡ verdict_of n size room
+pub fault_not : (n size room : ℕ) (u : ⊤) (x : Written) → Ok u ≡ judged n → x ≡ choose (ltb 4294967295 size) (refused 6 0) (choose (ltb room (12 + size)) (refused 15 0) (Octets (12 + size))) → x ≡ verdict_of n size room
 unfolding verdict_of
-refused_not zero size room x h e = e
-refused_not (suc n) size room x h e = absurd (omega arith)
+fault_not zero size room u x h e = e
+fault_not (suc n) size room u x h e = cc
 
 -- the right answer and buffer are what a writer promises
 writes : (layout : ℕ → ℕ → Layout) (st : St) (g : Given) (out k : List ℕ) (v : Written) → v ≡ writer_answer layout st g out → k ≡ writer_leaves layout st g out → Writes layout st g out v k

@@ -1,16 +1,15 @@
 -- Items that a writer is given laid out, judged by the reader.
-use mathlib.Core.Path.{◌≡◌, refl, sym, ap, ◌∙◌}
-use mathlib.Core.Bool.{Bool, true, false}
+use mathlib.Core.Path.{◌≡◌, refl, ap, ◌∙◌}
 use mathlib.Core.List.{List, [], ◌∷◌}
-use Prim.Native.Nat.{ℕ, ◌+◌, ◌-◌, ◌^◌}
+use Prim.Native.Nat.{ℕ, ◌+◌, ◌-◌}
 use native.Mathlib.Omega.{arith}
-use lib.Dec.{leb}
 use lib.ListN.{length}
 use Rattle.form_spec.specs.Fmt.{Out, bad, good, bind, Fmt, join, over_at}
 use Rattle.form_spec.specs.Body.{plain, ended, read_body, read_n}
 use Rattle.form_spec.specs.Pass.{whole, times}
-use Rattle.form_spec.specs.Put.{fault_of, items, items_refusal}
-use Rattle.octets_laws.proofs.PutRules.{is_large, not_large}
+use Rattle.form_spec.specs.Put.{fault_of, large, items, items_refusal}
+use Rattle.write_spec.specs.Judged.{judged, unplaced}
+use Rattle.write_laws.proofs.Judged.{then_ok, whole_strict, by_number}
 use Rattle.form_laws.proofs.Then.{flatly, read-times}
 use Rattle.form_laws.proofs.Whole.{outcome_body, whole_body}
 use Rattle.form_spec.specs.Refusal.{refused, number_in}
@@ -31,10 +30,8 @@ items-fault g n raw = ap number_in (whole_body (λ fs. none) refused (times n g)
     go (good its []) = refl
     go (good its (x ∷ r)) = refl
 
--- a count that does not fit, and one that does, where the reader shows r; t is what a test by `large` says
-pub count_large : (g : Fmt) (n : ℕ) (raw : List ℕ) (t : Bool) → t ≡ leb (256 ^ 2) n → t ≡ true → 6 ≡ items_refusal g (items n raw)
-count_large g n raw t p q = sym (rw (is_large 2 n t p q))
-
-pub items-judged : (g : Fmt) (n : ℕ) (raw : List ℕ) (t : Bool) (r : Result ⊤ Fault) → t ≡ leb (256 ^ 2) n → t ≡ false → r ≡ whole (λ fs. none) refused (times n g) raw 0
-    → number_in r ≡ items_refusal g (items n raw)
-items-judged g n raw t r p q e = rw (not_large 2 n t p q) (ap number_in e ∙ items-fault g n raw)
+-- the count fits, and the reader answers r of the items
+pub items_read : (g : Fmt) (n : ℕ) (raw : List ℕ) (u : ⊤) (r : Result ⊤ Fault) → Ok u ≡ judged (large 2 n) → r ≡ whole (λ fs. none) refused (times n g) raw 0 → unplaced r ≡ judged (items_refusal g (items n raw))
+items_read g n raw u r e h =
+    let s : unplaced r ≡ judged (fault_of (read_n g n 0 raw)) = rw h (by_number (whole (λ fs. none) refused (times n g) raw 0) (whole_strict (λ fs. tt) (times n g) raw 0) ∙ ap judged (items-fault g n raw)) in
+    then_ok (large 2 n) (fault_of (read_n g n 0 raw)) u (unplaced r) e s

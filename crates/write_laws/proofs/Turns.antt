@@ -2,7 +2,7 @@
 use mathlib.Core.Path.{◌≡◌, refl, sym, ap, ◌∙◌}
 use mathlib.Core.Bool.{Bool, true, false, cond, not}
 use mathlib.Core.List.{List}
-use Prim.Native.Nat.{ℕ, zero, suc, ◌+◌, ◌≤◌, ◌<◌}
+use Prim.Native.Nat.{ℕ, zero, suc, ◌+◌, ◌<◌}
 use native.Mathlib.Omega.{arith}
 use lib.Dec.{T, eqb, leb}
 use borrow.Author.Tests.{ne_eqb, le-leb}
@@ -21,30 +21,25 @@ use Rattle.page_spec.specs.contracts.Kind.{the_type}
 use Rattle.page_spec.specs.declared.Kind.{Kind}
 use Rattle.page_spec.specs.declared.Kind.TheVariants as kinds
 use Rattle.form_spec.specs.declared.Fault.{Fault}
-use Rattle.std.specs.Prelude.{Ok, Err}
+use Rattle.std.specs.Prelude.{Result, Ok, Err, ⊤}
+use Rattle.form_spec.specs.Refusal.{refused}
+use Rattle.write_spec.specs.Judged.{judged}
+use Rattle.write_laws.proofs.Judged.{then_ok, then_err}
 
-or_first : (n m : ℕ) → 0 < n → n ≡ or_else n m
-or_first zero m h = absurd (omega arith)
-or_first (suc n) m h = refl
-
-or_next : (n m : ℕ) → n ≤ 0 → m ≡ or_else n m
-or_next zero m h = refl
-or_next (suc n) m h = absurd (omega arith)
-
-or_both : (n m b : ℕ) → or_else (or_else n m) b ≡ or_else n (or_else m b)
+pub or_both : (n m b : ℕ) → or_else (or_else n m) b ≡ or_else n (or_else m b)
 or_both zero m b = refl
 or_both (suc n) m b = refl
 
--- ---- a front and items: n is the number for the front
+-- ---- a front and items; y is a writer's answer, without a place
 
-module _ (f g : Fmt) (vs : List Value) (t : Tail) (n : ℕ) (judged : n ≡ refusal f vs) where
-  pub front_stops : 0 < n → n ≡ body_refusal (many f g) vs t
+module _ (f g : Fmt) (vs : List Value) (t : Tail) (y : Result ⊤ Fault) where
+  pub front_err : (why : Fault) → Err why ≡ judged (refusal f vs) → y ≡ refused why.number 0 → y ≡ judged (body_refusal (many f g) vs t)
   unfolding body_refusal
-  front_stops h = rw (← judged) (or_first n (items_refusal g t) h)
+  front_err why e h = then_err (refusal f vs) (items_refusal g t) why y e h
 
-  pub front-passes : (r : ℕ) → n ≤ 0 → r ≡ items_refusal g t → r ≡ body_refusal (many f g) vs t
+  pub front_ok : (u : ⊤) → Ok u ≡ judged (refusal f vs) → y ≡ judged (items_refusal g t) → y ≡ judged (body_refusal (many f g) vs t)
   unfolding body_refusal
-  front-passes r h e = rw (← judged) (e ∙ or_next n (items_refusal g t) h)
+  front_ok u e h = then_ok (refusal f vs) (items_refusal g t) u y e h
 
 -- ---- whose a kind is
 
@@ -72,10 +67,9 @@ not_own ts w t k e m h = ne_eqb (writer (Ok k)) w (λ d. miss ts t m (rw (sym (h
 pub no_one : (w : ℕ) (why : Fault) → 0 < w → eqb (writer (Err why)) w ≡ false
 no_one w why h = ne_eqb 0 w (λ e. omega arith)
 
--- ---- the header: w is the writer, k the record's kind, n the number for the header's fields
+-- ---- the header: w is the writer, k the record's kind, y the writer's answer without a place
 
-module _ (longest w : ℕ) (st : St) (g : Given) (k : Chosen) (n : ℕ) (listed : 0 < w) (typed : large 2 g.type ≡ 0) (chosen : kind g.type g.sub ≡ k)
-    (judged : n ≡ or_else (large 4 g.stamp) (large 2 g.sub)) where
+module _ (longest w : ℕ) (st : St) (g : Given) (k : Chosen) (y : Result ⊤ Fault) (listed : 0 < w) (typed : large 2 g.type ≡ 0) (chosen : kind g.type g.sub ≡ k) where
   -- its own kinds, and those that it does not list, have a Type that is listed
   own_typed : (b : Bool) (k : Chosen) → eqb (writer k) w ≡ b → type_refusal (layout_for longest (choose b k unlisted)) ≡ 0
   unfolding layout_for choose
@@ -89,22 +83,25 @@ module _ (longest w : ℕ) (st : St) (g : Given) (k : Chosen) (n : ℕ) (listed 
   own_typed true (Change micro w) e = refl
   own_typed true (Message micro w) e = refl
 
-  body : Chosen → ℕ
+  abbrev head : ℕ
+  head = or_else (large 4 g.stamp) (large 2 g.sub)
+
+  abbrev body : Chosen → ℕ
   body k = body_refusal (plan st (layout_for longest k)) g.values g.tail
 
-  turns : (b : Bool) → eqb (writer k) w ≡ b → or_else n (body (choose b k unlisted)) ≡ fields_refusal (only_sub w longest) st g
-  unfolding fields_refusal body
-  turns b e = rw (judged, chosen, e, typed, own_typed b k e) (or_both (large 4 g.stamp) (large 2 g.sub) (body (choose b k unlisted)))
+  turns : (b : Bool) → eqb (writer k) w ≡ b → or_else head (body (choose b k unlisted)) ≡ fields_refusal (only_sub w longest) st g
+  unfolding fields_refusal
+  turns b e = rw (chosen, e, typed, own_typed b k e) (or_both (large 4 g.stamp) (large 2 g.sub) (body (choose b k unlisted)))
 
-  pub stops : 0 < n → n ≡ fields_refusal (only_sub w longest) st g
-  stops h = or_first n (body (choose (eqb (writer k) w) k unlisted)) h ∙ turns (eqb (writer k) w) refl
+  pub head_stops : (why : Fault) → Err why ≡ judged head → y ≡ refused why.number 0 → y ≡ judged (fields_refusal (only_sub w longest) st g)
+  head_stops why e h = then_err _ _ why y e h ∙ ap judged (turns (eqb (writer k) w) refl)
 
   -- a kind of another writer is refused with 4, whatever its fields
-  pub others : n ≤ 0 → eqb (writer k) w ≡ false → 4 ≡ fields_refusal (only_sub w longest) st g
-  unfolding body choose layout_for plan body_refusal refusal
-  others h e = or_next n 4 h ∙ turns false e
+  pub other_kind : (u : ⊤) → Ok u ≡ judged head → eqb (writer k) w ≡ false → y ≡ refused 4 0 → y ≡ judged (fields_refusal (only_sub w longest) st g)
+  unfolding choose layout_for plan body_refusal refusal
+  other_kind u e d h = then_ok _ _ u y e h ∙ ap judged (turns false d)
 
   -- its own is laid out as the page says
-  pub owns : (r : ℕ) → n ≤ 0 → eqb (writer k) w ≡ true → r ≡ body_refusal (plan st (layout_for longest k)) g.values g.tail → r ≡ fields_refusal (only_sub w longest) st g
-  unfolding body choose
-  owns r h e d = d ∙ or_next n (body k) h ∙ turns true e
+  pub own_kind : (u : ⊤) → Ok u ≡ judged head → eqb (writer k) w ≡ true → y ≡ judged (body k) → y ≡ judged (fields_refusal (only_sub w longest) st g)
+  unfolding choose
+  own_kind u e d h = then_ok _ _ u y e h ∙ ap judged (turns true d)

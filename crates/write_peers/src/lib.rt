@@ -11,52 +11,48 @@ ghost use Rattle.page_spec.specs.Peers.{peer, table_head};
 ghost use Rattle.write_spec.specs.Only.{only_sub, peer_tables};
 ghost use Rattle.write_spec.specs.Givens.{peer_table_given};
 ghost use Rattle.write_spec.specs.Verdict.{Writes};
+ghost use Rattle.write_spec.specs.Judged.{judged, unplaced};
 
 use form_spec::Fault;
-use octets::{large, put_bytes, put_number};
+use octets::{put_bytes, put_number};
 use peers::peers_at;
 use text::is_text;
-use write::{add, put_head, verdict};
+use write::{fits, head_refusal, put_head, verdict};
 
 // Peers are judged by the reader, as they stand.
-fn peers_refusal(peers: &[u8], count: u64) -> u8
-    ensures { result ≡ items_refusal peer (items count peers.now) }
+fn peers_refusal(peers: &[u8], count: u64) -> Result<(), Fault>
+    ensures { unplaced result ≡ judged (items_refusal peer (items count peers.now)) }
 {
-    if large(count, 2) {
-        return 6;
-    }
-    match peers_at(peers, 0, count, ()) {
-        Ok(()) => 0,
-        Err(f) => f.number,
-    }
+    fits(count, 2)?;
+    peers_at(peers, 0, count, ())
 }
 
-fn front_refusal(collector: u64, name: &[u8]) -> u8
-    ensures { result ≡ refusal (table_head (end 0)) (digits 4 collector ∷ digits 2 (length name.now) ∷ bytes name.now ∷ []) }
+fn front_refusal(collector: u64, name: &[u8]) -> Result<(), Fault>
+    ensures { unplaced result ≡ judged (refusal (table_head (end 0)) (digits 4 collector ∷ digits 2 (length name.now) ∷ bytes name.now ∷ [])) }
 {
-    if large(collector, 4) {
-        return 6;
+    fits(collector, 4)?;
+    fits(name.len() as u64, 2)?;
+    if !is_text(name) {
+        return Err(Fault {
+            number: 17,
+            place: 0,
+        });
     }
-    if large(name.len() as u64, 2) {
-        return 6;
-    }
-    if is_text(name) {
-        return 0;
-    }
-    17
+    Ok(())
 }
 
-// The number for all but the Length and the room.
-fn table_refusal(timestamp: u64, collector: u64, name: &[u8], count: u64, peers: &[u8]) -> u8
-    ensures { (longest : ℕ) → result ≡ fields_refusal (only_sub peer_tables longest) no_table (peer_table_given timestamp collector name.now count peers.now) }
+// All but the Length and the room.
+fn table_refusal(
+    timestamp: u64,
+    collector: u64,
+    name: &[u8],
+    count: u64,
+    peers: &[u8],
+) -> Result<(), Fault>
+    ensures { (longest : ℕ) → unplaced result ≡ judged (fields_refusal (only_sub peer_tables longest) no_table (peer_table_given timestamp collector name.now count peers.now)) }
 {
-    if large(timestamp, 4) {
-        return 6;
-    }
-    let n = front_refusal(collector, name);
-    if 0 < n {
-        return n;
-    }
+    head_refusal(timestamp, 1)?;
+    front_refusal(collector, name)?;
     peers_refusal(peers, count)
 }
 
@@ -84,9 +80,9 @@ pub fn write_peer_table(
 ) -> Result<usize, Fault>
     ensures { Writes (only_sub peer_tables longest_message) no_table (peer_table_given timestamp collector name.now count peers.now) out.old result out.new }
 {
-    let n = table_refusal(timestamp, collector, name, count, peers);
-    let size = add(add(8, name.len()), peers.len());
-    let written = verdict(n, size, out.len())?;
+    let fields = table_refusal(timestamp, collector, name, count, peers);
+    let size = name.len().saturating_add(peers.len()).saturating_add(8);
+    let written = verdict(fields, size, out.len())?;
     put_head(out, timestamp, 13, 1, size as u64);
     put_table(out, collector, name, count, peers);
     Ok(written)

@@ -1,7 +1,7 @@
 -- The table that is told, and RIB messages as the writers lay them.
 use mathlib.Core.Path.{◌≡◌, ap, ◌∙◌}
 use mathlib.Core.List.{List, [], ◌∷◌, ◌++◌, append_assoc, append-nil}
-use Prim.Native.Nat.{ℕ, ◌+◌, ◌≤◌, ◌<◌}
+use Prim.Native.Nat.{ℕ, ◌+◌, ◌≤◌}
 use native.Mathlib.Omega.{arith}
 use lib.ListN.{length, length-append, length-replicate}
 use Rattle.form_spec.specs.Octets.{to_be}
@@ -16,7 +16,11 @@ use Rattle.page_spec.specs.Rib.{entry_rest, entry}
 use Rattle.record_spec.specs.Table.{state_of, Table, Absent, Holds}
 use Rattle.write_spec.specs.Givens.{rib_given, rib_generic_given}
 use Rattle.write_laws.proofs.Laid.{none, number, octets}
-use Rattle.write_laws.proofs.Turns.{front_stops, front-passes}
+use Rattle.write_laws.proofs.Turns.{front_err, front_ok}
+use Rattle.write_spec.specs.Judged.{judged}
+use Rattle.form_spec.specs.Refusal.{refused}
+use Rattle.form_spec.specs.declared.Fault.{Fault}
+use Rattle.std.specs.Prelude.{Result, Ok, Err, ⊤}
 
 -- ---- the table that is told
 
@@ -28,13 +32,13 @@ held : (told : Table) (peers : ℕ) (f : Fmt) → told ≡ Holds peers → plan 
 unfolding plan entry
 held told peers f e = rw (e, length-replicate {A = ℕ} peers 0)
 
--- n is the number for the fields before the count
-module _ (told : Table) (peers : ℕ) (f : Fmt) (vs : List Value) (t : Tail) (n : ℕ) (known : told ≡ Holds peers) (judged : n ≡ refusal f vs) where
-  pub held_stops : 0 < n → n ≡ body_refusal (plan (state_of told) (entries f entry_rest)) vs t
-  held_stops h = rw (held told peers f known) (front_stops f (entry peers) vs t n judged h)
+-- the fields before the count, then the entries; y is an answer without a place
+module _ (told : Table) (peers : ℕ) (f : Fmt) (vs : List Value) (t : Tail) (y : Result ⊤ Fault) (known : told ≡ Holds peers) where
+  pub held_err : (why : Fault) → Err why ≡ judged (refusal f vs) → y ≡ refused why.number 0 → y ≡ judged (body_refusal (plan (state_of told) (entries f entry_rest)) vs t)
+  held_err why e h = rw (held told peers f known) (front_err f (entry peers) vs t y why e h)
 
-  pub held_passes : (r : ℕ) → n ≤ 0 → r ≡ items_refusal (entry peers) t → r ≡ body_refusal (plan (state_of told) (entries f entry_rest)) vs t
-  held_passes r h e = rw (held told peers f known) (front-passes f (entry peers) vs t n judged r h e)
+  pub held_ok : (u : ⊤) → Ok u ≡ judged (refusal f vs) → y ≡ judged (items_refusal (entry peers) t) → y ≡ judged (body_refusal (plan (state_of told) (entries f entry_rest)) vs t)
+  held_ok u e h = rw (held told peers f known) (front_ok f (entry peers) vs t y u e h)
 
 -- ---- the messages
 
@@ -49,7 +53,7 @@ module _ (t y sequence bits : ℕ) (prefix : List ℕ) (count : ℕ) (raw : List
   abbrev given : Given
   given = rib_given t y sequence bits prefix count raw
 
-  pub rib-length : 7 + length prefix + length raw ≡ length (message given)
+  pub rib-length : length prefix + length raw + 7 ≡ length (message given)
   rib-length = simp (length-append, length-to_be) (omega arith)
 
   pub rib-laid : (l l1 l2 : List ℕ) → l1 ≡ over l 12 (to_be 4 sequence) → l2 ≡ over l1 16 (routes bits prefix count raw) → 12 + length (message given) ≤ length l → l2 ≡ over l 12 (message given)
@@ -62,7 +66,7 @@ module _ (t sequence family safi bits : ℕ) (prefix : List ℕ) (count : ℕ) (
   abbrev generic : Given
   generic = rib_generic_given t sequence family safi bits prefix count raw
 
-  pub generic_length : 10 + length prefix + length raw ≡ length (message generic)
+  pub generic_length : length prefix + length raw + 10 ≡ length (message generic)
   generic_length = simp (length-append, length-to_be) (omega arith)
 
   pub generic_laid : (l l1 l2 l3 l4 : List ℕ) → l1 ≡ over l 12 (to_be 4 sequence) → l2 ≡ over l1 16 (to_be 2 family) → l3 ≡ over l2 18 (to_be 1 safi)

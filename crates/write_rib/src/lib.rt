@@ -11,50 +11,41 @@ ghost use Rattle.octets_spec.specs.Over.{over};
 ghost use Rattle.write_spec.specs.Only.{only_sub, ribs, generic_ribs};
 ghost use Rattle.write_spec.specs.Givens.{rib_given, rib_generic_given};
 ghost use Rattle.write_spec.specs.Verdict.{Writes};
+ghost use Rattle.write_spec.specs.Judged.{judged, unplaced};
 
 use form_spec::Fault;
 use kind::kind_13;
-use octets::{large, put_bytes, put_number};
+use octets::{put_bytes, put_number};
 use page_spec::Kind;
 use record_spec::Table;
 use rib::entries_at;
-use write::{add, head_refusal, put_head, verdict};
+use write::{fits, head_refusal, put_head, sized, verdict};
 
 // Entries are judged by the reader, as they stand.
-fn entries_refusal(entries: &[u8], count: u64, peers: u64) -> u8
-    ensures { result ≡ items_refusal (entry peers) (items count entries.now) }
+fn entries_refusal(entries: &[u8], count: u64, peers: u64) -> Result<(), Fault>
+    ensures { unplaced result ≡ judged (items_refusal (entry peers) (items count entries.now)) }
 {
-    if large(count, 2) {
-        return 6;
-    }
-    match entries_at(entries, 0, count, peers, ()) {
-        Ok(()) => 0,
-        Err(f) => f.number,
-    }
+    fits(count, 2)?;
+    entries_at(entries, 0, count, peers, ())
 }
 
 // A prefix of at most `most` bits, and nothing behind it.
-fn prefix_refusal(most: u64, bits: u64, octets: &[u8]) -> u8
+fn prefix_refusal(most: u64, bits: u64, octets: &[u8]) -> Result<(), Fault>
     requires { most ≤ 128 }
-    ensures { result ≡ refusal (prefix most (end 0)) (digits 1 bits ∷ bytes octets.now ∷ []) }
+    ensures { unplaced result ≡ judged (refusal (prefix most (end 0)) (digits 1 bits ∷ bytes octets.now ∷ [])) }
 {
-    if large(bits, 1) {
-        return 6;
-    }
+    fits(bits, 1)?;
     if most < bits {
-        return 8;
+        return Err(Fault {
+            number: 8,
+            place: 0,
+        });
     }
     let size = ((bits + 7) / 8) as usize;
-    if octets.len() < size {
-        return 5;
-    }
-    if size < octets.len() {
-        return 6;
-    }
-    0
+    sized(octets.len(), size)
 }
 
-// The number for all but the Length and the room.
+// All but the Length and the room.
 fn rib_refusal(
     timestamp: u64,
     subtype: u64,
@@ -64,56 +55,51 @@ fn rib_refusal(
     prefix: &[u8],
     count: u64,
     entries: &[u8],
-) -> u8
-    ensures { (longest : ℕ) → result ≡ fields_refusal (only_sub ribs longest) (state_of told) (rib_given timestamp subtype sequence bits prefix.now count entries.now) }
+) -> Result<(), Fault>
+    ensures { (longest : ℕ) → unplaced result ≡ judged (fields_refusal (only_sub ribs longest) (state_of told) (rib_given timestamp subtype sequence bits prefix.now count entries.now)) }
 {
-    let n = head_refusal(timestamp, subtype);
-    if 0 < n {
-        return n;
-    }
-    let Ok(listed) = kind_13(subtype) else {
-        return 4;
-    };
-    let Kind::Rib(most) = listed else {
-        return 4;
+    head_refusal(timestamp, subtype)?;
+    let Ok(Kind::Rib(most)) = kind_13(subtype) else {
+        return Err(Fault {
+            number: 4,
+            place: 0,
+        });
     };
     let Some(peers) = told else {
-        return 12;
+        return Err(Fault {
+            number: 12,
+            place: 0,
+        });
     };
-    if large(sequence, 4) {
-        return 6;
-    }
-    let p = prefix_refusal(most, bits, prefix);
-    if 0 < p {
-        return p;
-    }
+    fits(sequence, 4)?;
+    prefix_refusal(most, bits, prefix)?;
     entries_refusal(entries, count, peers)
 }
 
 // The sequence, family, SAFI and prefix of subtype 6.
-fn generic_refusal(sequence: u64, family: u64, safi: u64, bits: u64, prefix: &[u8]) -> u8
-    ensures { result ≡ refusal (generic_head (end 0)) (digits 4 sequence ∷ digits 2 family ∷ digits 1 safi ∷ digits 1 bits ∷ bytes prefix.now ∷ []) }
+fn generic_refusal(
+    sequence: u64,
+    family: u64,
+    safi: u64,
+    bits: u64,
+    prefix: &[u8],
+) -> Result<(), Fault>
+    ensures { unplaced result ≡ judged (refusal (generic_head (end 0)) (digits 4 sequence ∷ digits 2 family ∷ digits 1 safi ∷ digits 1 bits ∷ bytes prefix.now ∷ [])) }
 {
-    if large(sequence, 4) {
-        return 6;
+    fits(sequence, 4)?;
+    fits(family, 2)?;
+    if family < 1 || 2 < family {
+        return Err(Fault {
+            number: 7,
+            place: 0,
+        });
     }
-    if large(family, 2) {
-        return 6;
-    }
-    if family < 1 {
-        return 7;
-    }
-    if 2 < family {
-        return 7;
-    }
-    if large(safi, 1) {
-        return 6;
-    }
-    if safi < 1 {
-        return 7;
-    }
-    if 2 < safi {
-        return 7;
+    fits(safi, 1)?;
+    if safi < 1 || 2 < safi {
+        return Err(Fault {
+            number: 7,
+            place: 0,
+        });
     }
     if family <= 1 {
         return prefix_refusal(32, bits, prefix);
@@ -121,7 +107,7 @@ fn generic_refusal(sequence: u64, family: u64, safi: u64, bits: u64, prefix: &[u
     prefix_refusal(128, bits, prefix)
 }
 
-// The number for all but the Length and the room.
+// All but the Length and the room.
 fn generic_rib_refusal(
     timestamp: u64,
     told: Table,
@@ -132,20 +118,17 @@ fn generic_rib_refusal(
     prefix: &[u8],
     count: u64,
     entries: &[u8],
-) -> u8
-    ensures { (longest : ℕ) → result ≡ fields_refusal (only_sub generic_ribs longest) (state_of told) (rib_generic_given timestamp sequence family safi bits prefix.now count entries.now) }
+) -> Result<(), Fault>
+    ensures { (longest : ℕ) → unplaced result ≡ judged (fields_refusal (only_sub generic_ribs longest) (state_of told) (rib_generic_given timestamp sequence family safi bits prefix.now count entries.now)) }
 {
-    let n = head_refusal(timestamp, 6);
-    if 0 < n {
-        return n;
-    }
+    head_refusal(timestamp, 6)?;
     let Some(peers) = told else {
-        return 12;
+        return Err(Fault {
+            number: 12,
+            place: 0,
+        });
     };
-    let p = generic_refusal(sequence, family, safi, bits, prefix);
-    if 0 < p {
-        return p;
-    }
+    generic_refusal(sequence, family, safi, bits, prefix)?;
     entries_refusal(entries, count, peers)
 }
 
@@ -176,11 +159,11 @@ pub fn write_rib(
 ) -> Result<usize, Fault>
     ensures { Writes (only_sub ribs longest_message) (state_of told) (rib_given timestamp subtype sequence bits prefix.now count entries.now) out.old result out.new }
 {
-    let n = rib_refusal(
+    let fields = rib_refusal(
         timestamp, subtype, told, sequence, bits, prefix, count, entries,
     );
-    let size = add(add(7, prefix.len()), entries.len());
-    let written = verdict(n, size, out.len())?;
+    let size = prefix.len().saturating_add(entries.len()).saturating_add(7);
+    let written = verdict(fields, size, out.len())?;
     put_head(out, timestamp, 13, subtype, size as u64);
     put_number(out, 12, 4, sequence);
     put_entries(out, 16, bits, prefix, count, entries);
@@ -202,11 +185,14 @@ pub fn write_rib_generic(
 ) -> Result<usize, Fault>
     ensures { Writes (only_sub generic_ribs longest_message) (state_of told) (rib_generic_given timestamp sequence family safi bits prefix.now count entries.now) out.old result out.new }
 {
-    let n = generic_rib_refusal(
+    let fields = generic_rib_refusal(
         timestamp, told, sequence, family, safi, bits, prefix, count, entries,
     );
-    let size = add(add(10, prefix.len()), entries.len());
-    let written = verdict(n, size, out.len())?;
+    let size = prefix
+        .len()
+        .saturating_add(entries.len())
+        .saturating_add(10);
+    let written = verdict(fields, size, out.len())?;
     put_head(out, timestamp, 13, 6, size as u64);
     put_number(out, 12, 4, sequence);
     put_number(out, 16, 2, family);

@@ -1,4 +1,5 @@
 pub mod Times
 pub mod Verdict
+pub mod Judged
 pub mod Only
 pub mod Givens

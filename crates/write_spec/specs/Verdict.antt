@@ -1,5 +1,5 @@
 -- What a writer answers, and what its buffer holds then (document 01, "Number and place of a fault" and the writer's paragraph).
-use Rattle.std.specs.Prelude.{◌≡◌, ℕ, zero, suc, ◌+◌, ◌^◌, cond, List, ltb}
+use Rattle.std.specs.Prelude.{◌≡◌, ℕ, zero, suc, ◌+◌, min, List, ltb}
 use Rattle.form_spec.specs.Put.{Given, octets, record_refusal}
 use Rattle.form_spec.specs.Shape.{Layout, St}
 use Rattle.form_spec.specs.Words.{choose}
@@ -21,8 +21,8 @@ Writes layout st g out r holding = (r ≡ writer_answer layout st g out) × (hol
 -- ---- the same by numbers, as code has them
 
 -- the largest number that a `usize` holds stands for any larger one
-unfoldable pub capped : ℕ → ℕ
-capped n = cond (ltb n (2 ^ 64)) n 18446744073709551615
+abbrev pub capped : ℕ → ℕ
+capped n = min n 18446744073709551615
 
 unfoldable pub verdict_of : (refused size room : ℕ) → Written
 verdict_of zero size room =

@@ -21,7 +21,7 @@ module _ (t y view sequence : ℕ) (prefix : List ℕ) (bits status originated :
   abbrev rest : List ℕ
   rest = join (lay (digits 1 status ∷ digits 4 originated ∷ bytes address ∷ digits 2 peer ∷ digits 2 (length attributes) ∷ bytes attributes ∷ []))
 
-  pub dump_length : 14 + length prefix + length address + length attributes ≡ length (message given)
+  pub dump_length : length prefix + length address + length attributes + 14 ≡ length (message given)
   dump_length = simp (length-append, length-to_be) (omega arith)
 
   pub dump_laid : (l m b : List ℕ) (at : ℕ) → at ≡ 17 + length prefix → m ≡ over l 12 front → b ≡ over m at rest → 12 + length (message given) ≤ length l → b ≡ over l 12 (message given)

@@ -11,12 +11,13 @@ ghost use Rattle.octets_spec.specs.Over.{over};
 ghost use Rattle.write_spec.specs.Only.{only_sub, table_dumps};
 ghost use Rattle.write_spec.specs.Givens.{route_values, table_dump_given};
 ghost use Rattle.write_spec.specs.Verdict.{Writes};
+ghost use Rattle.write_spec.specs.Judged.{judged, unplaced};
 
 use form_spec::Fault;
 use kind::kind_12;
-use octets::{large, put_bytes, put_number};
+use octets::{put_bytes, put_number};
 use page_spec::Kind;
-use write::{add, head_refusal, put_head, verdict};
+use write::{fits, head_refusal, put_head, sized, verdict};
 
 // Behind the prefix length.
 fn rest_refusal(
@@ -26,31 +27,21 @@ fn rest_refusal(
     address: &[u8],
     peer: u64,
     attributes: &[u8],
-) -> u8
-    ensures { result ≡ refusal (table_dump_rest size) (digits 1 status ∷ digits 4 originated ∷ bytes address.now ∷ digits 2 peer ∷ digits 2 (length attributes.now) ∷ bytes attributes.now ∷ []) }
+) -> Result<(), Fault>
+    ensures { unplaced result ≡ judged (refusal (table_dump_rest size) (digits 1 status ∷ digits 4 originated ∷ bytes address.now ∷ digits 2 peer ∷ digits 2 (length attributes.now) ∷ bytes attributes.now ∷ [])) }
 {
-    if large(status, 1) {
-        return 6;
+    fits(status, 1)?;
+    fits(originated, 4)?;
+    sized(address.len(), size)?;
+    fits(peer, 2)?;
+    fits(attributes.len() as u64, 2)?;
+    if !attr::tile(attributes) {
+        return Err(Fault {
+            number: 11,
+            place: 0,
+        });
     }
-    if large(originated, 4) {
-        return 6;
-    }
-    if address.len() < size {
-        return 5;
-    }
-    if size < address.len() {
-        return 6;
-    }
-    if large(peer, 2) {
-        return 6;
-    }
-    if large(attributes.len() as u64, 2) {
-        return 6;
-    }
-    if attr::tile(attributes) {
-        return 0;
-    }
-    11
+    Ok(())
 }
 
 fn route_refusal(
@@ -64,32 +55,24 @@ fn route_refusal(
     address: &[u8],
     peer: u64,
     attributes: &[u8],
-) -> u8
+) -> Result<(), Fault>
     requires { size ≤ 16 }
-    ensures { result ≡ refusal (table_dump size) (route_values view sequence prefix.now bits status originated address.now peer attributes.now) }
+    ensures { unplaced result ≡ judged (refusal (table_dump size) (route_values view sequence prefix.now bits status originated address.now peer attributes.now)) }
 {
-    if large(view, 2) {
-        return 6;
-    }
-    if large(sequence, 2) {
-        return 6;
-    }
-    if prefix.len() < size {
-        return 5;
-    }
-    if size < prefix.len() {
-        return 6;
-    }
-    if large(bits, 1) {
-        return 6;
-    }
+    fits(view, 2)?;
+    fits(sequence, 2)?;
+    sized(prefix.len(), size)?;
+    fits(bits, 1)?;
     if ((8 * size) as u64) < bits {
-        return 8;
+        return Err(Fault {
+            number: 8,
+            place: 0,
+        });
     }
     rest_refusal(size, status, originated, address, peer, attributes)
 }
 
-// The number for all but the Length and the room.
+// All but the Length and the room.
 fn dump_refusal(
     timestamp: u64,
     subtype: u64,
@@ -102,18 +85,15 @@ fn dump_refusal(
     address: &[u8],
     peer: u64,
     attributes: &[u8],
-) -> u8
-    ensures { (longest : ℕ) → result ≡ fields_refusal (only_sub table_dumps longest) no_table (table_dump_given timestamp subtype view sequence prefix.now bits status originated address.now peer attributes.now) }
+) -> Result<(), Fault>
+    ensures { (longest : ℕ) → unplaced result ≡ judged (fields_refusal (only_sub table_dumps longest) no_table (table_dump_given timestamp subtype view sequence prefix.now bits status originated address.now peer attributes.now)) }
 {
-    let n = head_refusal(timestamp, subtype);
-    if 0 < n {
-        return n;
-    }
-    let Ok(listed) = kind_12(subtype) else {
-        return 4;
-    };
-    let Kind::TableDump(size) = listed else {
-        return 4;
+    head_refusal(timestamp, subtype)?;
+    let Ok(Kind::TableDump(size)) = kind_12(subtype) else {
+        return Err(Fault {
+            number: 4,
+            place: 0,
+        });
     };
     route_refusal(
         size, view, sequence, prefix, bits, status, originated, address, peer, attributes,
@@ -173,12 +153,16 @@ pub fn write_table_dump(
 ) -> Result<usize, Fault>
     ensures { Writes (only_sub table_dumps longest_message) no_table (table_dump_given timestamp subtype view sequence prefix.now bits status originated address.now peer attributes.now) out.old result out.new }
 {
-    let n = dump_refusal(
+    let fields = dump_refusal(
         timestamp, subtype, view, sequence, prefix, bits, status, originated, address, peer,
         attributes,
     );
-    let size = add(add(add(14, prefix.len()), address.len()), attributes.len());
-    let written = verdict(n, size, out.len())?;
+    let parts = prefix
+        .len()
+        .saturating_add(address.len())
+        .saturating_add(attributes.len());
+    let size = parts.saturating_add(14);
+    let written = verdict(fields, size, out.len())?;
     put_head(out, timestamp, 12, subtype, size as u64);
     let at = put_front(out, view, sequence, prefix, bits);
     put_rest(out, at, status, originated, address, peer, attributes);

@@ -1,7 +1,7 @@
 -- How a record whose contents are carried unread is refused.
 use mathlib.Core.Path.{◌≡◌, refl, sym, ◌∙◌}
 use mathlib.Core.Bool.{false}
-use mathlib.Core.List.{List, [], ◌++◌, append-nil}
+use mathlib.Core.List.{List}
 use Prim.Native.Nat.{ℕ, ◌+◌}
 use native.Mathlib.Omega.{arith}
 use lib.Dec.{eqb}
@@ -40,14 +40,9 @@ module _ (longest : ℕ) where
   unfolding layout_for
   unread_typed m = refl
 
-  pub unread_body : (t : Time) (r : List ℕ) (y : ℕ) → y ≡ refusal (stamped (micro_size t) (end 0)) (micros t ++ [])
-      → y ≡ body_refusal (plan no_table (layout_for longest (Unread (micro_size t)))) (micros t) (carried r)
+  pub unread_body : (t : Time) (r : List ℕ) → refusal (stamped (micro_size t) (end 0)) (micros t) ≡ body_refusal (plan no_table (layout_for longest (Unread (micro_size t)))) (micros t) (carried r)
   unfolding layout_for plan body_refusal
-  unread_body t r y h = rw append-nil at h
-
-pub nothing_left : 0 ≡ refusal (end 0) []
-unfolding refusal
-nothing_left = refl
+  unread_body t r = refl
 
 -- ---- how long it is
 

@@ -1,24 +1,22 @@
--- `write_bgp::addresses_refusal` meets its contract.
+-- `write_bgp::addresses_refusal` meets its contract: each value in its turn.
+use mathlib.Core.Path.{◌≡◌, ap}
+use borrow.Author.Rules.{rules}
+use Rattle.std.specs.Prelude.{Err}
+use Rattle.write_spec.specs.Judged.{unplaced}
 use Rattle.page_spec.specs.Bgp4mp.{addresses}
-use Rattle.octets_laws.proofs.PutRules.{put_flow}
+use Rattle.write_laws.proofs.Judged.{judge_flow}
 use Rattle.write_bgp.proofs.addresses_refusal.Goals as goal
 
-pub returns-then-theirs-size : goal.returns-then-theirs-size
+pub returns-in_err-sized : goal.returns-in_err-sized
 unfolding addresses
-returns-then-theirs-size c = λ f vs h. search put_flow depth 12
-
-pub returns-then-size-theirs : goal.returns-then-size-theirs
-unfolding addresses
-returns-then-size-theirs c = λ f vs h. search put_flow depth 12
-
-pub returns-then-ours-size : goal.returns-then-ours-size
-unfolding addresses
-returns-then-ours-size c = λ f vs h. search put_flow depth 12
-
-pub returns-then-size-ours : goal.returns-then-size-ours
-unfolding addresses
-returns-then-size-ours c = λ f vs h. search put_flow depth 12
+returns-in_err-sized c =
+    let why = c.in_err-sized.ensures in
+    let passed : c.from_residual.result ≡ Err c.in_err-sized.field-0.0 = search rules in
+    let y = ap unplaced passed in
+    search judge_flow depth 12
 
 pub returns : goal.returns
 unfolding addresses
-returns c = λ f vs h. search put_flow depth 12
+returns c =
+    let a = c.in_ok-sized.ensures in
+    search judge_flow depth 12

@@ -1,21 +1,24 @@
 -- `write_bgp::bgp_refusal` meets its contract: the header, then the message's fields.
 use mathlib.Core.Path.{◌≡◌, refl, sym, ap, ◌∙◌}
 use mathlib.Core.List.{[], ◌∷◌}
-use Prim.Native.Nat.{ℕ}
 use lib.Dec.{lit<}
-use Rattle.form_spec.specs.Put.{Given, or_else, large, body_refusal}
+use Rattle.form_spec.specs.Fmt.{end}
+use Rattle.form_spec.specs.Put.{Given, or_else, refusal, body_refusal, fields_refusal}
 use Rattle.form_spec.specs.Shape.{no_table, plan}
-use Rattle.page_spec.specs.Bgp4mp.{message}
-use Rattle.page_spec.specs.Layout.{kind, layout_for}
-use Rattle.write_spec.specs.Times.{stamp_of, bgp4mp}
-use Rattle.write_spec.specs.Only.{as_octets, messages}
-use Rattle.write_spec.specs.Givens.{bgp_values, message_given}
-use Rattle.write_laws.proofs.Turns.{not_own, no_one, stops, others, owns}
-use Rattle.write_bgp.proofs.Laws.{type-fits, Found, found}
+use Rattle.form_spec.specs.declared.Fault.{Fault}
+use Rattle.page_spec.specs.Bgp4mp.{session, message}
+use Rattle.page_spec.specs.Layout.{kind, layout_for, stamped}
+use Rattle.std.specs.Prelude.{Result, Ok, Err, ⊤}
+use Rattle.write_spec.specs.Judged.{judged, unplaced}
+use Rattle.write_spec.specs.Times.{micro_size, micros, bgp4mp}
+use Rattle.write_spec.specs.Only.{as_octets, only_sub, messages}
+use Rattle.write_spec.specs.Givens.{session_values, bgp_values, message_given}
+use Rattle.write_laws.proofs.Judged.{then_ok, then_err, stamp_then}
+use Rattle.write_laws.proofs.Turns.{not_own, no_one, head_stops, other_kind, own_kind}
+use Rattle.write_bgp.proofs.Laws.{type-fits, Found, found, session_then}
 use borrow.Author.Rules.{rules}
-use Rattle.std.specs.Prelude.{Ok}
 use borrow.Enum.Refused.{opened}
-use Rattle.write_bgp.proofs.bgp_refusal.Goals.{After-head_refusal-n, After-kind_16, Start}
+use Rattle.write_bgp.proofs.bgp_refusal.Goals.{After-kind_16, In-Ok-Message, Start}
 use Rattle.write_bgp.proofs.bgp_refusal.Goals as goal
 
 abbrev given : Start → Given
@@ -23,39 +26,59 @@ given s =
     let a = s.args in
     message_given a.time a.subtype a.peer a.local a.interface a.family a.theirs.now a.ours.now a.message.now
 
--- the header's number
-head : (c : After-head_refusal-n) → c.head_refusal-n.result ≡ or_else (large 4 (stamp_of c.args.time)) (large 2 c.args.subtype)
-head c =
-    c.head_refusal-n.ensures ∙ ap (λ (x : ℕ). or_else (large 4 x) (large 2 c.args.subtype)) c.seconds.ensures
-
 -- the kind, as the page has it
 kind_found : (c : After-kind_16) → Found c.args.time c.args.subtype c.kind_16.result
-kind_found c =
-    found _ _ _ _ c.micro.ensures c.kind_16.ensures
+kind_found c = found _ _ _ _ c.micro.ensures c.kind_16.ensures
+
+-- the header's fields are sound, and the kind is the writer's own: the microseconds, the session, and the rest
+passes : (y : Result ⊤ Fault) (c : In-Ok-Message) → let a = c.args in
+    y ≡ judged (or_else (refusal (stamped (micro_size a.time) (end 0)) (micros a.time))
+    (or_else (refusal (session c.in-Ok-Message.width (end 0)) (session_values c.in-Ok-Message.width a.peer a.local a.interface a.family a.theirs.now a.ours.now []))
+    (refusal (message c.args.longest) (bgp_values a.message.now))))
+    → y ≡ judged (fields_refusal (only_sub messages c.args.longest) no_table (message_given a.time a.subtype a.peer a.local a.interface a.family a.theirs.now a.ours.now a.message.now))
+unfolding layout_for plan body_refusal
+passes y c h =
+    let a = c.args in
+    let k : Found a.time a.subtype c.kind_16.result = found _ _ _ _ c.micro.ensures c.kind_16.ensures in
+    let e = c.in-Ok-Message.is ∙ ap Ok c.in-Ok-Message.field-0-is in
+    let m = rw e at k.stamps in
+    let w : as_octets (kind (bgp4mp a.time) a.subtype) ≡ c.in-Ok-Message.width = ap as_octets (sym k.page ∙ e) in
+    let head = rw c.seconds.ensures at c.in_ok-head_refusal.ensures in
+    own_kind c.args.longest messages no_table (message_given a.time a.subtype a.peer a.local a.interface a.family a.theirs.now a.ours.now a.message.now) _ y (lit< tt) (type-fits a.time) (sym k.page ∙ e) _ head refl
+    (rw (w, m) (h ∙ ap judged (ap (or_else (refusal (stamped (micro_size a.time) (end 0)) (micros a.time))) (session_then c.in-Ok-Message.width a.peer a.local a.interface a.family a.theirs.now a.ours.now (message c.args.longest) (bgp_values a.message.now))
+    ∙ stamp_then a.time (session c.in-Ok-Message.width (message c.args.longest)) (session_values c.in-Ok-Message.width a.peer a.local a.interface a.family a.theirs.now a.ours.now (bgp_values a.message.now)))))
 
 pub session_refusal-requires : goal.session_refusal-requires
-session_refusal-requires c = let s = rw (c.in-Ok.is ∙ ap Ok c.in-Message.is) at (kind_found (goal.at.session_refusal-requires c).After-kind_16).sane in search rules
+session_refusal-requires c = let s = rw (c.in-Ok-Message.is ∙ ap Ok c.in-Ok-Message.field-0-is) at (kind_found (goal.at.session_refusal-requires c).After-kind_16).sane in search rules
 
-pub returns-then-n-gt0 : goal.returns-then-n-gt0
-returns-then-n-gt0 c = stops c.args.longest messages no_table (given (goal.at.returns-then-n-gt0 c).Start) _ _ (lit< tt) (type-fits c.args.time) refl (head (goal.at.returns-then-n-gt0 c).After-head_refusal-n) (search rules)
+pub returns-in_err-head_refusal : goal.returns-in_err-head_refusal
+returns-in_err-head_refusal c =
+    let passed : c.from_residual.result ≡ Err c.in_err-head_refusal.field-0.0 = search rules in
+    let head = rw c.seconds.ensures at c.in_err-head_refusal.ensures in
+    head_stops c.args.longest messages no_table (given (goal.at.returns-in_err-head_refusal c).Start) _ _ (lit< tt) (type-fits c.args.time) refl _ head (ap unplaced passed)
 
 pub returns-in_default : goal.returns-in_default
 returns-in_default c =
-    let other = no_one messages c.in_default.field-0 (lit< tt) in
-    others c.args.longest messages no_table (given (goal.at.returns-in_default c).Start) _ _ (lit< tt) (type-fits c.args.time) (sym (kind_found (goal.at.returns-in_default c).After-kind_16).page ∙ c.in_default.is) (head (goal.at.returns-in_default c).After-head_refusal-n) (search rules) other
+    let head = rw c.seconds.ensures at c.in_ok-head_refusal.ensures in
+    let other = not_own (0 ∷ 1 ∷ 2 ∷ 3 ∷ 4 ∷ 5 ∷ []) messages 6 _ refl tt (opened c.in_default.in_default-own.keys2) in
+    other_kind c.args.longest messages no_table (given (goal.at.returns-in_default c).Start) _ _ (lit< tt) (type-fits c.args.time) (sym (kind_found (goal.at.returns-in_default c).After-kind_16).page ∙ c.kind_16.ensures ∙ sym c.in_default.ensures) _ head other refl
 
-pub returns-in_default-listed : goal.returns-in_default-listed
-returns-in_default-listed c =
-    let other = not_own (0 ∷ 1 ∷ 2 ∷ 3 ∷ 4 ∷ 5 ∷ []) messages 6 _ refl tt (opened c.in_default-listed.in_default-listed-own.keys2) in
-    others c.args.longest messages no_table (given (goal.at.returns-in_default-listed c).Start) _ _ (lit< tt) (type-fits c.args.time) (sym (kind_found (goal.at.returns-in_default-listed c).After-kind_16).page ∙ c.in-Ok.is) (head (goal.at.returns-in_default-listed c).After-head_refusal-n) (search rules) other
+pub returns-in_default-2 : goal.returns-in_default-2
+returns-in_default-2 c =
+    let head = rw c.seconds.ensures at c.in_ok-head_refusal.ensures in
+    let other = no_one messages c.in_default.field-0 (lit< tt) in
+    other_kind c.args.longest messages no_table (given (goal.at.returns-in_default-2 c).Start) _ _ (lit< tt) (type-fits c.args.time) (sym (kind_found (goal.at.returns-in_default-2 c).After-kind_16).page ∙ c.in_default.is) _ head other refl
+
+pub returns-in_err-stamp_refusal : goal.returns-in_err-stamp_refusal
+returns-in_err-stamp_refusal c =
+    let passed : c.from_residual-in_err-stamp_refusal.result ≡ Err c.in_err-stamp_refusal.field-0.0 = search rules in
+    passes _ (goal.at.returns-in_err-stamp_refusal c).In-Ok-Message (then_err _ _ _ _ c.in_err-stamp_refusal.ensures (ap unplaced passed))
+
+pub returns-in_err-session_refusal : goal.returns-in_err-session_refusal
+returns-in_err-session_refusal c =
+    let passed : c.from_residual-in_err-session_refusal.result ≡ Err c.in_err-session_refusal.field-0.0 = search rules in
+    passes _ (goal.at.returns-in_err-session_refusal c).In-Ok-Message (then_ok _ _ _ _ c.in_ok-stamp_refusal.ensures (then_err _ _ _ _ c.in_err-session_refusal.ensures (ap unplaced passed)))
 
 pub returns : goal.returns
-unfolding layout_for plan body_refusal
 returns c =
-    let a = c.args in
-    let k = kind_found (goal.at.returns c).After-kind_16 in
-    let e = c.in-Ok.is ∙ ap Ok c.in-Message.is in
-    let m = rw e at k.stamps in
-    let w : as_octets (kind (bgp4mp a.time) a.subtype) ≡ c.in-Message.width = ap as_octets (sym k.page ∙ e) in
-    owns c.args.longest messages no_table (given (goal.at.returns c).Start) _ _ (lit< tt) (type-fits a.time) (sym k.page ∙ e) (head (goal.at.returns c).After-head_refusal-n) _ (search rules) refl
-    (rw (w, m) (c.stamped_refusal.ensures _ _ (c.session_refusal.ensures (message a.longest) (bgp_values a.message.now) c.message_refusal-rest.ensures)))
+    passes _ (goal.at.returns c).In-Ok-Message (then_ok _ _ _ _ c.in_ok-stamp_refusal.ensures (then_ok _ _ _ _ c.in_ok-session_refusal.ensures c.message_refusal.ensures))

@@ -1,12 +1,12 @@
 -- `write_bgp::message_refusal` meets its contract: the reader's number.
-use mathlib.Core.Path.{◌≡◌, refl, sym, ap, ◌∙◌}
-use Rattle.std.specs.Prelude.{Option, Some, None, Ok}
-use Rattle.record_spec.specs.declared.Body.{Body}
+use mathlib.Core.Path.{◌≡◌, ap, ◌∙◌}
+use Rattle.std.specs.Prelude.{Err}
 use Rattle.record_spec.specs.declared.Part.{Part}
 use Rattle.record_spec.specs.declared.Header.{Header}
 use Rattle.record_spec.specs.declared.Session.{Session}
-use Rattle.record_spec.specs.Answer.{fault}
-use Rattle.write_bgp.proofs.Judged.{judged}
+use Rattle.write_spec.specs.Judged.{unplaced}
+use Rattle.write_bgp.proofs.Judged.{message_err, message_ok}
+use borrow.Author.Rules.{rules}
 use Rattle.write_bgp.proofs.message_refusal.Goals as goal
 
 -- the message stands alone
@@ -19,13 +19,10 @@ header = record { timestamp = 0; ty = 0; subtype = 0; length = 0; microseconds =
 abbrev session : Session
 session = record { peer = 0; local = 0; interface = 0; family = 0; theirs = part; ours = part }
 
--- what is not refused has no fault
-unrefused : (x : Option (Header × Body)) → fault (Ok x) ≡ 0
-unrefused None = refl
-unrefused (Some x) = refl
+pub returns-in_err-message_at : goal.returns-in_err-message_at
+returns-in_err-message_at c =
+    let passed : c.from_residual.result ≡ Err c.in_err-message_at.field-0.0 = search rules in
+    ap unplaced passed ∙ message_err _ header session c.args.b.now _ c.in_err-message_at.ensures
 
-pub returns-in-Ok : goal.returns-in-Ok
-returns-in-Ok c = sym (ap fault c.in-Ok.is ∙ unrefused c.in-Ok.field-0) ∙ judged _ header session c.args.b.now _ c.message_at.ensures
-
-pub returns-in-Err : goal.returns-in-Err
-returns-in-Err c = sym (ap fault c.in-Err.is) ∙ judged _ header session c.args.b.now _ c.message_at.ensures
+pub returns : goal.returns
+returns c = message_ok _ header session c.args.b.now _ c.in_ok-message_at.ensures

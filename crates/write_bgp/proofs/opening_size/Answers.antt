@@ -14,4 +14,4 @@ pub overflow_add-fixed-2 : goal.overflow_add-fixed-2
 overflow_add-fixed-2 c = let m = micro_small c.args.time in search rules
 
 pub returns : goal.returns
-returns c = let m = c.micro.ensures in summed _ _ _ _ c.add.ensures c.add-2.ensures ∙ ap capped (omega arith)
+returns c = let m = c.micro.ensures in summed _ _ _ _ c.saturating_add.ensures c.saturating_add-2.ensures ∙ ap capped (omega arith)

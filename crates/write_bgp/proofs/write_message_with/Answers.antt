@@ -36,28 +36,28 @@ long c =
     let b = behind_long a.time (as_octets (kind (bgp4mp a.time) a.subtype)) a.peer a.local a.interface a.family a.theirs.now a.ours.now (bgp_values a.message.now) a.subtype in
     omega arith
 
-sized : (c : After-verdict) → let given : (Given) = let a = c.args in message_given a.time a.subtype a.peer a.local a.interface a.family a.theirs.now a.ours.now a.message.now in c.add-size.result ≡ capped (length (message given))
+sized : (c : After-verdict) → let given : (Given) = let a = c.args in message_given a.time a.subtype a.peer a.local a.interface a.family a.theirs.now a.ours.now a.message.now in c.saturating_add-size.result ≡ capped (length (message given))
 sized c =
     let given : (Given) = let a = c.args in message_given a.time a.subtype a.peer a.local a.interface a.family a.theirs.now a.ours.now a.message.now in
     let long : (let a = c.args in opening_size a.time (c.width_of-w.result) a.theirs.now a.ours.now + length a.message.now ≡ length (message given)) = let a = c.args in let w = c.width_of-w.ensures.0 in let l = ap length (pieces a.message.now) in let b = behind_long a.time (as_octets (kind (bgp4mp a.time) a.subtype)) a.peer a.local a.interface a.family a.theirs.now a.ours.now (bgp_values a.message.now) a.subtype in omega arith in
-    summed _ _ _ _ c.opening_size.ensures c.add-size.ensures ∙ ap capped long
+    summed _ _ _ _ c.opening_size.ensures c.saturating_add-size.ensures ∙ ap capped long
 
 -- ---- the record goes into the buffer
 fine : (c : In_ok-written) → let given : (Given) = let a = c.args in message_given a.time a.subtype a.peer a.local a.interface a.family a.theirs.now a.ours.now a.message.now in
-    Goes (only_sub messages c.args.longest) no_table given c.args.out.now c.add-size.result (Octets c.in_ok-written.written)
+    Goes (only_sub messages c.args.longest) no_table given c.args.out.now c.saturating_add-size.result (Octets c.in_ok-written.written)
 fine c =
     let given : (Given) = let a = c.args in message_given a.time a.subtype a.peer a.local a.interface a.family a.theirs.now a.ours.now a.message.now in
     let long : (let a = c.args in opening_size a.time (c.width_of-w.result) a.theirs.now a.ours.now + length a.message.now ≡ length (message given)) = let a = c.args in let w = c.width_of-w.ensures.0 in let l = ap length (pieces a.message.now) in let b = behind_long a.time (as_octets (kind (bgp4mp a.time) a.subtype)) a.peer a.local a.interface a.family a.theirs.now a.ours.now (bgp_values a.message.now) a.subtype in omega arith in
-    let sized : (c.add-size.result ≡ capped (length (message given))) = summed _ _ _ _ c.opening_size.ensures c.add-size.ensures ∙ ap capped long in
-    goes _ no_table given c.args.out.now _ _ _ _ c.bgp_refusal-n.ensures sized refl c.in_ok-written.ensures _ refl
+    let sized : (c.saturating_add-size.result ≡ capped (length (message given))) = summed _ _ _ _ c.opening_size.ensures c.saturating_add-size.ensures ∙ ap capped long in
+    goes _ no_table given c.args.out.now _ _ _ _ refl sized refl (c.in_ok-written.ensures _ c.bgp_refusal-fields.ensures) _ refl
 
 room : (c : In_ok-written) → let a = c.args in
     12 + (opening_size a.time (c.width_of-w.result) a.theirs.now a.ours.now + length a.message.now) ≤ length a.out.now
 room c =
     let given : (Given) = let a = c.args in message_given a.time a.subtype a.peer a.local a.interface a.family a.theirs.now a.ours.now a.message.now in
     let long : (let a = c.args in opening_size a.time (c.width_of-w.result) a.theirs.now a.ours.now + length a.message.now ≡ length (message given)) = let a = c.args in let w = c.width_of-w.ensures.0 in let l = ap length (pieces a.message.now) in let b = behind_long a.time (as_octets (kind (bgp4mp a.time) a.subtype)) a.peer a.local a.interface a.family a.theirs.now a.ours.now (bgp_values a.message.now) a.subtype in omega arith in
-    let sized : (c.add-size.result ≡ capped (length (message given))) = summed _ _ _ _ c.opening_size.ensures c.add-size.ensures ∙ ap capped long in
-    let fine : (Goes (only_sub messages c.args.longest) no_table given c.args.out.now c.add-size.result (Octets c.in_ok-written.written)) = goes _ no_table given c.args.out.now _ _ _ _ c.bgp_refusal-n.ensures sized refl c.in_ok-written.ensures _ refl in
+    let sized : (c.saturating_add-size.result ≡ capped (length (message given))) = summed _ _ _ _ c.opening_size.ensures c.saturating_add-size.ensures ∙ ap capped long in
+    let fine : (Goes (only_sub messages c.args.longest) no_table given c.args.out.now c.saturating_add-size.result (Octets c.in_ok-written.written)) = goes _ no_table given c.args.out.now _ _ _ _ refl sized refl (c.in_ok-written.ensures _ c.bgp_refusal-fields.ensures) _ refl in
     rw long fine.space
 
 pub returns-in_err-written : goal.returns-in_err-written
@@ -65,7 +65,7 @@ returns-in_err-written c =
     let a = c.args in
     let why = c.in_err-written.field-0.0 in
     let passed : c.from_residual.result ≡ Err why = search rules in
-    refuses _ _ (given (goal.at.returns-in_err-written c).After-verdict) c.args.out.now _ _ _ _ c.bgp_refusal-n.ensures (sized (goal.at.returns-in_err-written c).After-verdict) refl (passed ∙ c.in_err-written.ensures) why passed
+    refuses _ _ (given (goal.at.returns-in_err-written c).After-verdict) c.args.out.now _ _ _ _ refl (sized (goal.at.returns-in_err-written c).After-verdict) refl (passed ∙ c.in_err-written.ensures _ c.bgp_refusal-fields.ensures) why passed
 
 pub put_head-requires : goal.put_head-requires
 put_head-requires c = let r = room (goal.at.put_head-requires c).In_ok-written in search rules

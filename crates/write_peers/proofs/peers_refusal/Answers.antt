@@ -1,19 +1,7 @@
--- `write_peers::peers_refusal` meets its contract.
-use mathlib.Core.Path.{sym, ap, ◌∙◌}
+-- `write_peers::peers_refusal` meets its contract: the count, then what the reader says.
 use Rattle.page_spec.specs.Peers.{peer}
-use Rattle.form_spec.specs.Refusal.{number_in}
-use Rattle.write_laws.proofs.Items.{count_large, items-judged}
+use Rattle.write_laws.proofs.Items.{items_read}
 use Rattle.write_peers.proofs.peers_refusal.Goals as goal
 
-pub returns-then-large : goal.returns-then-large
-returns-then-large c = let a = c.args in count_large peer a.count a.peers.now _ c.large.ensures c.if-large.true
-
-pub returns-in-Ok : goal.returns-in-Ok
-returns-in-Ok c =
-    let a = c.args in
-    sym (ap number_in c.in-Ok.is) ∙ items-judged peer a.count a.peers.now _ _ c.large.ensures c.if-large.false c.peers_at.ensures
-
-pub returns-in-Err : goal.returns-in-Err
-returns-in-Err c =
-    let a = c.args in
-    sym (ap number_in c.in-Err.is) ∙ items-judged peer a.count a.peers.now _ _ c.large.ensures c.if-large.false c.peers_at.ensures
+pub returns : goal.returns
+returns c = let a = c.args in items_read peer a.count a.peers.now _ _ c.in_ok-fits.ensures c.peers_at.ensures

@@ -1,20 +1,24 @@
--- `write_rib::generic_rib_refusal` meets its contract.
-use mathlib.Core.Path.{◌≡◌, refl}
+-- `write_rib::generic_rib_refusal` meets its contract: the header, the table, the fields before the count, the entries.
+use mathlib.Core.Path.{◌≡◌, refl, ap}
 use Prim.Native.Nat.{ℕ}
 use native.Mathlib.Omega.{arith}
 use Rattle.form_spec.specs.Fmt.{end}
 use Rattle.form_spec.specs.Put.{Given, body_refusal, fields_refusal}
 use Rattle.form_spec.specs.Shape.{entries, plan}
 use Rattle.form_spec.specs.Words.{choose, in_range}
+use Rattle.form_spec.specs.declared.Fault.{Fault}
 use Rattle.page_spec.specs.Layout.{kind13, kind, layout_for}
 use Rattle.page_spec.specs.Rib.{generic_head, entry_rest}
 use Rattle.page_spec.specs.Chosen.{RibGeneric}
 use Rattle.record_spec.specs.Table.{state_of}
+use Rattle.std.specs.Prelude.{Result, Err, ⊤}
+use Rattle.write_spec.specs.Judged.{judged, unplaced}
 use Rattle.write_spec.specs.Only.{only_sub, generic_ribs}
 use Rattle.write_spec.specs.Givens.{rib_generic_given}
-use Rattle.write_laws.proofs.Turns.{stops, owns}
-use Rattle.write_rib.proofs.Laws.{no_table, held_stops, held_passes}
-use Rattle.write_rib.proofs.generic_rib_refusal.Goals.{Else-n-gt0, Start}
+use Rattle.write_laws.proofs.Turns.{head_stops, own_kind}
+use Rattle.write_rib.proofs.Laws.{no_table, held_err, held_ok}
+use borrow.Author.Rules.{rules}
+use Rattle.write_rib.proofs.generic_rib_refusal.Goals.{In_ok-head_refusal, Start}
 use Rattle.write_rib.proofs.generic_rib_refusal.Goals as goal
 
 abbrev given : Start → Given
@@ -22,31 +26,29 @@ given s =
     let a = s.args in
     rib_generic_given a.timestamp a.sequence a.family a.safi a.bits a.prefix.now a.count a.entries.now
 
--- the header's fields are sound, and the message is refused with r
-passes : (longest r : ℕ) (c : Else-n-gt0) → let given : (Given) = let a = c.args in rib_generic_given a.timestamp a.sequence a.family a.safi a.bits a.prefix.now a.count a.entries.now in
-    r ≡ body_refusal (plan (state_of c.args.told) (entries (generic_head (end 0)) entry_rest)) given.values given.tail
-    → r ≡ fields_refusal (only_sub generic_ribs longest) (state_of c.args.told) given
+-- the header's fields are sound
+passes : (longest : ℕ) (y : Result ⊤ Fault) (c : In_ok-head_refusal) → let given : (Given) = let a = c.args in rib_generic_given a.timestamp a.sequence a.family a.safi a.bits a.prefix.now a.count a.entries.now in
+    y ≡ judged (body_refusal (plan (state_of c.args.told) (entries (generic_head (end 0)) entry_rest)) given.values given.tail)
+    → y ≡ judged (fields_refusal (only_sub generic_ribs longest) (state_of c.args.told) given)
 unfolding kind kind13 choose in_range layout_for
-passes longest r c e =
+passes longest y c e =
     let given : (Given) = let a = c.args in rib_generic_given a.timestamp a.sequence a.family a.safi a.bits a.prefix.now a.count a.entries.now in
-    owns longest generic_ribs (state_of c.args.told) given RibGeneric _ (omega arith) refl refl c.head_refusal-n.ensures r c.if-n-gt0.false refl e
+    own_kind longest generic_ribs (state_of c.args.told) given RibGeneric y (omega arith) refl refl _ c.in_ok-head_refusal.ensures refl e
 
-pub returns-then-n-gt0 : goal.returns-then-n-gt0
+pub returns-in_err-head_refusal : goal.returns-in_err-head_refusal
 unfolding kind kind13 choose in_range
-returns-then-n-gt0 c =
-    λ longest.
-    stops longest generic_ribs (state_of c.args.told) (given (goal.at.returns-then-n-gt0 c).Start) RibGeneric _ (omega arith) refl refl c.head_refusal-n.ensures c.if-n-gt0.true
+returns-in_err-head_refusal c = λ longest.
+    let passed : c.from_residual.result ≡ Err c.in_err-head_refusal.field-0.0 = search rules in
+    head_stops longest generic_ribs (state_of c.args.told) (given (goal.at.returns-in_err-head_refusal c).Start) RibGeneric _ (omega arith) refl refl _ c.in_err-head_refusal.ensures (ap unplaced passed)
 
 pub returns-in_default : goal.returns-in_default
-returns-in_default c = λ longest. passes longest _ (goal.at.returns-in_default c).Else-n-gt0 (no_table _ _ _ _ _ c.in_default.is)
+returns-in_default c = λ longest. passes longest _ (goal.at.returns-in_default c).In_ok-head_refusal (ap judged (no_table _ _ _ _ _ c.in_default.is))
 
-pub returns-then-p-gt0 : goal.returns-then-p-gt0
-returns-then-p-gt0 c =
-    λ longest.
-    let held = c.in-Some.is in
-    passes longest _ (goal.at.returns-then-p-gt0 c).Else-n-gt0 (held_stops _ _ _ _ _ _ held c.generic_refusal-p.ensures c.if-p-gt0.true)
+pub returns-in_err-generic_refusal : goal.returns-in_err-generic_refusal
+returns-in_err-generic_refusal c = λ longest.
+    let passed : c.from_residual-in_err-generic_refusal.result ≡ Err c.in_err-generic_refusal.field-0.0 = search rules in
+    passes longest _ (goal.at.returns-in_err-generic_refusal c).In_ok-head_refusal (held_err _ _ _ _ _ _ c.in-Some.is _ c.in_err-generic_refusal.ensures (ap unplaced passed))
 
 pub returns : goal.returns
-returns c =
-    λ longest.
-    passes longest _ (goal.at.returns c).Else-n-gt0 (held_passes _ _ _ _ _ _ c.in-Some.is c.generic_refusal-p.ensures _ c.if-p-gt0.false c.entries_refusal.ensures)
+returns c = λ longest.
+    passes longest _ (goal.at.returns c).In_ok-head_refusal (held_ok _ _ _ _ _ _ c.in-Some.is _ c.in_ok-generic_refusal.ensures c.entries_refusal.ensures)

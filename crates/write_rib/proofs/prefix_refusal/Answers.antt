@@ -1,24 +1,28 @@
--- `write_rib::prefix_refusal` meets its contract.
+-- `write_rib::prefix_refusal` meets its contract: each value in its turn.
+use mathlib.Core.Path.{◌≡◌, ap}
+use borrow.Author.Rules.{rules}
+use Rattle.std.specs.Prelude.{Err}
+use Rattle.write_spec.specs.Judged.{unplaced}
 use Rattle.page_spec.specs.Rib.{prefix}
-use Rattle.octets_laws.proofs.PutRules.{put_flow}
+use Rattle.write_laws.proofs.Judged.{judge_flow}
 use Rattle.write_rib.proofs.prefix_refusal.Goals as goal
 
-pub returns-then-large : goal.returns-then-large
+pub returns-in_err-fits : goal.returns-in_err-fits
 unfolding prefix
-returns-then-large c = search put_flow depth 12
+returns-in_err-fits c =
+    let why = c.in_err-fits.ensures in
+    let passed : c.from_residual.result ≡ Err c.in_err-fits.field-0.0 = search rules in
+    let y = ap unplaced passed in
+    search judge_flow depth 12
 
 pub returns-then-most-bits : goal.returns-then-most-bits
 unfolding prefix
-returns-then-most-bits c = search put_flow depth 12
-
-pub returns-then-octets-size : goal.returns-then-octets-size
-unfolding prefix
-returns-then-octets-size c = search put_flow depth 12
-
-pub returns-then-size-octets : goal.returns-then-size-octets
-unfolding prefix
-returns-then-size-octets c = search put_flow depth 12
+returns-then-most-bits c =
+    let a = c.in_ok-fits.ensures in
+    search judge_flow depth 12
 
 pub returns : goal.returns
 unfolding prefix
-returns c = search put_flow depth 12
+returns c =
+    let a = c.in_ok-fits.ensures in
+    search judge_flow depth 12

@@ -20,33 +20,33 @@ abbrev given : After-verdict → Given
 given c =
     let a = c.args in rib_generic_given a.timestamp a.sequence a.family a.safi a.bits a.prefix.now a.count a.entries.now
 
-long : (c : After-verdict) → let given : (Given) = let a = c.args in rib_generic_given a.timestamp a.sequence a.family a.safi a.bits a.prefix.now a.count a.entries.now in let a = c.args in 10 + length a.prefix.now + length a.entries.now ≡ length (message given)
+long : (c : After-verdict) → let given : (Given) = let a = c.args in rib_generic_given a.timestamp a.sequence a.family a.safi a.bits a.prefix.now a.count a.entries.now in let a = c.args in length a.prefix.now + length a.entries.now + 10 ≡ length (message given)
 long c =
     let given : (Given) = let a = c.args in rib_generic_given a.timestamp a.sequence a.family a.safi a.bits a.prefix.now a.count a.entries.now in
     let a = c.args in generic_length a.timestamp a.sequence a.family a.safi a.bits a.prefix.now a.count a.entries.now
 
-sized : (c : After-verdict) → let given : (Given) = let a = c.args in rib_generic_given a.timestamp a.sequence a.family a.safi a.bits a.prefix.now a.count a.entries.now in c.add-size.result ≡ capped (length (message given))
+sized : (c : After-verdict) → let given : (Given) = let a = c.args in rib_generic_given a.timestamp a.sequence a.family a.safi a.bits a.prefix.now a.count a.entries.now in c.saturating_add-size.result ≡ capped (length (message given))
 sized c =
     let given : (Given) = let a = c.args in rib_generic_given a.timestamp a.sequence a.family a.safi a.bits a.prefix.now a.count a.entries.now in
-    let long : (let a = c.args in 10 + length a.prefix.now + length a.entries.now ≡ length (message given)) = let a = c.args in generic_length a.timestamp a.sequence a.family a.safi a.bits a.prefix.now a.count a.entries.now in
-    summed _ _ _ _ c.add.ensures c.add-size.ensures ∙ ap capped long
+    let long : (let a = c.args in length a.prefix.now + length a.entries.now + 10 ≡ length (message given)) = let a = c.args in generic_length a.timestamp a.sequence a.family a.safi a.bits a.prefix.now a.count a.entries.now in
+    summed _ _ _ _ c.saturating_add.ensures c.saturating_add-size.ensures ∙ ap capped long
 
 -- ---- the record goes into the buffer
 fine : (longest : ℕ) (c : In_ok-written) → let given : (Given) = let a = c.args in rib_generic_given a.timestamp a.sequence a.family a.safi a.bits a.prefix.now a.count a.entries.now in let a = c.args in
-    Goes (only_sub generic_ribs longest) (state_of a.told) given a.out.now c.add-size.result (Octets c.in_ok-written.written)
+    Goes (only_sub generic_ribs longest) (state_of a.told) given a.out.now c.saturating_add-size.result (Octets c.in_ok-written.written)
 fine longest c =
     let given : (Given) = let a = c.args in rib_generic_given a.timestamp a.sequence a.family a.safi a.bits a.prefix.now a.count a.entries.now in
-    let long : (let a = c.args in 10 + length a.prefix.now + length a.entries.now ≡ length (message given)) = let a = c.args in generic_length a.timestamp a.sequence a.family a.safi a.bits a.prefix.now a.count a.entries.now in
-    let sized : (c.add-size.result ≡ capped (length (message given))) = summed _ _ _ _ c.add.ensures c.add-size.ensures ∙ ap capped long in
+    let long : (let a = c.args in length a.prefix.now + length a.entries.now + 10 ≡ length (message given)) = let a = c.args in generic_length a.timestamp a.sequence a.family a.safi a.bits a.prefix.now a.count a.entries.now in
+    let sized : (c.saturating_add-size.result ≡ capped (length (message given))) = summed _ _ _ _ c.saturating_add.ensures c.saturating_add-size.ensures ∙ ap capped long in
     let a = c.args in
-    goes _ (state_of a.told) given a.out.now _ _ _ _ (c.generic_rib_refusal-n.ensures longest) sized refl c.in_ok-written.ensures _ refl
+    goes _ (state_of a.told) given a.out.now _ _ _ _ refl sized refl (c.in_ok-written.ensures _ (c.generic_rib_refusal-fields.ensures longest)) _ refl
 
-room : (c : In_ok-written) → let a = c.args in 12 + (10 + length a.prefix.now + length a.entries.now) ≤ length a.out.now
+room : (c : In_ok-written) → let a = c.args in 12 + (length a.prefix.now + length a.entries.now + 10) ≤ length a.out.now
 room c =
     let given : (Given) = let a = c.args in rib_generic_given a.timestamp a.sequence a.family a.safi a.bits a.prefix.now a.count a.entries.now in
-    let long : (let a = c.args in 10 + length a.prefix.now + length a.entries.now ≡ length (message given)) = let a = c.args in generic_length a.timestamp a.sequence a.family a.safi a.bits a.prefix.now a.count a.entries.now in
-    let sized : (c.add-size.result ≡ capped (length (message given))) = summed _ _ _ _ c.add.ensures c.add-size.ensures ∙ ap capped long in
-    let fine : (let a = c.args in Goes (only_sub generic_ribs 0) (state_of a.told) given a.out.now c.add-size.result (Octets c.in_ok-written.written)) = let a = c.args in goes _ (state_of a.told) given a.out.now _ _ _ _ (c.generic_rib_refusal-n.ensures 0) sized refl c.in_ok-written.ensures _ refl in
+    let long : (let a = c.args in length a.prefix.now + length a.entries.now + 10 ≡ length (message given)) = let a = c.args in generic_length a.timestamp a.sequence a.family a.safi a.bits a.prefix.now a.count a.entries.now in
+    let sized : (c.saturating_add-size.result ≡ capped (length (message given))) = summed _ _ _ _ c.saturating_add.ensures c.saturating_add-size.ensures ∙ ap capped long in
+    let fine : (let a = c.args in Goes (only_sub generic_ribs 0) (state_of a.told) given a.out.now c.saturating_add-size.result (Octets c.in_ok-written.written)) = let a = c.args in goes _ (state_of a.told) given a.out.now _ _ _ _ refl sized refl (c.in_ok-written.ensures _ (c.generic_rib_refusal-fields.ensures 0)) _ refl in
     rw long fine.space
 
 pub returns-in_err-written : goal.returns-in_err-written
@@ -54,7 +54,7 @@ returns-in_err-written c =
     let a = c.args in
     let why = c.in_err-written.field-0.0 in
     let passed : c.from_residual.result ≡ Err why = search rules in
-    refuses _ (state_of a.told) (given (goal.at.returns-in_err-written c).After-verdict) a.out.now _ _ _ _ (c.generic_rib_refusal-n.ensures _) (sized (goal.at.returns-in_err-written c).After-verdict) refl (passed ∙ c.in_err-written.ensures) why passed
+    refuses _ (state_of a.told) (given (goal.at.returns-in_err-written c).After-verdict) a.out.now _ _ _ _ refl (sized (goal.at.returns-in_err-written c).After-verdict) refl (passed ∙ c.in_err-written.ensures _ (c.generic_rib_refusal-fields.ensures _)) why passed
 
 pub put_head-requires : goal.put_head-requires
 put_head-requires c = let r = room (goal.at.put_head-requires c).In_ok-written in search rules

@@ -21,32 +21,32 @@ given c =
     let a = c.args in
     table_dump_given a.timestamp a.subtype a.view a.sequence a.prefix.now a.bits a.status a.originated a.address.now a.peer a.attributes.now
 
-long : (c : After-verdict) → let given : (Given) = let a = c.args in table_dump_given a.timestamp a.subtype a.view a.sequence a.prefix.now a.bits a.status a.originated a.address.now a.peer a.attributes.now in let a = c.args in 14 + length a.prefix.now + length a.address.now + length a.attributes.now ≡ length (message (given))
+long : (c : After-verdict) → let given : (Given) = let a = c.args in table_dump_given a.timestamp a.subtype a.view a.sequence a.prefix.now a.bits a.status a.originated a.address.now a.peer a.attributes.now in let a = c.args in length a.prefix.now + length a.address.now + length a.attributes.now + 14 ≡ length (message (given))
 long c =
     let given : (Given) = let a = c.args in table_dump_given a.timestamp a.subtype a.view a.sequence a.prefix.now a.bits a.status a.originated a.address.now a.peer a.attributes.now in
     let a = c.args in
     dump_length a.timestamp a.subtype a.view a.sequence a.prefix.now a.bits a.status a.originated a.address.now a.peer a.attributes.now
 
-sized : (c : After-verdict) → let given : (Given) = let a = c.args in table_dump_given a.timestamp a.subtype a.view a.sequence a.prefix.now a.bits a.status a.originated a.address.now a.peer a.attributes.now in c.add-size.result ≡ capped (length (message (given)))
+sized : (c : After-verdict) → let given : (Given) = let a = c.args in table_dump_given a.timestamp a.subtype a.view a.sequence a.prefix.now a.bits a.status a.originated a.address.now a.peer a.attributes.now in c.saturating_add-size.result ≡ capped (length (message (given)))
 sized c =
     let given : (Given) = let a = c.args in table_dump_given a.timestamp a.subtype a.view a.sequence a.prefix.now a.bits a.status a.originated a.address.now a.peer a.attributes.now in
-    let long : (let a = c.args in 14 + length a.prefix.now + length a.address.now + length a.attributes.now ≡ length (message (given))) = let a = c.args in dump_length a.timestamp a.subtype a.view a.sequence a.prefix.now a.bits a.status a.originated a.address.now a.peer a.attributes.now in
-    summed _ _ _ _ (summed _ _ _ _ c.add.ensures c.add-2.ensures) c.add-size.ensures ∙ ap capped (long)
+    let long : (let a = c.args in length a.prefix.now + length a.address.now + length a.attributes.now + 14 ≡ length (message (given))) = let a = c.args in dump_length a.timestamp a.subtype a.view a.sequence a.prefix.now a.bits a.status a.originated a.address.now a.peer a.attributes.now in
+    summed _ _ _ _ (summed _ _ _ _ c.saturating_add.ensures c.saturating_add-parts.ensures) c.saturating_add-size.ensures ∙ ap capped (long)
 
 -- ---- the record goes into the buffer
 fine : (longest : ℕ) (c : In_ok-written) → let given : (Given) = let a = c.args in table_dump_given a.timestamp a.subtype a.view a.sequence a.prefix.now a.bits a.status a.originated a.address.now a.peer a.attributes.now in
-    Goes (only_sub table_dumps longest) no_table (given) c.args.out.now c.add-size.result (Octets c.in_ok-written.written)
+    Goes (only_sub table_dumps longest) no_table (given) c.args.out.now c.saturating_add-size.result (Octets c.in_ok-written.written)
 fine longest c =
     let given : (Given) = let a = c.args in table_dump_given a.timestamp a.subtype a.view a.sequence a.prefix.now a.bits a.status a.originated a.address.now a.peer a.attributes.now in
-    let long : (let a = c.args in 14 + length a.prefix.now + length a.address.now + length a.attributes.now ≡ length (message (given))) = let a = c.args in dump_length a.timestamp a.subtype a.view a.sequence a.prefix.now a.bits a.status a.originated a.address.now a.peer a.attributes.now in
-    let sized : (c.add-size.result ≡ capped (length (message (given)))) = summed _ _ _ _ (summed _ _ _ _ c.add.ensures c.add-2.ensures) c.add-size.ensures ∙ ap capped (long) in
-    goes _ no_table (given) c.args.out.now _ _ _ _ (c.dump_refusal-n.ensures longest) (sized) refl c.in_ok-written.ensures _ refl
+    let long : (let a = c.args in length a.prefix.now + length a.address.now + length a.attributes.now + 14 ≡ length (message (given))) = let a = c.args in dump_length a.timestamp a.subtype a.view a.sequence a.prefix.now a.bits a.status a.originated a.address.now a.peer a.attributes.now in
+    let sized : (c.saturating_add-size.result ≡ capped (length (message (given)))) = summed _ _ _ _ (summed _ _ _ _ c.saturating_add.ensures c.saturating_add-parts.ensures) c.saturating_add-size.ensures ∙ ap capped (long) in
+    goes _ no_table (given) c.args.out.now _ _ _ _ refl (sized) refl (c.in_ok-written.ensures _ (c.dump_refusal-fields.ensures longest)) _ refl
 
 pub returns-in_err-written : goal.returns-in_err-written
 returns-in_err-written c =
     let why = c.in_err-written.field-0.0 in
     let passed : c.from_residual.result ≡ Err why = search rules in
-    refuses _ no_table (given (goal.at.returns-in_err-written c).After-verdict) c.args.out.now _ _ _ _ (c.dump_refusal-n.ensures _) (sized (goal.at.returns-in_err-written c).After-verdict) refl (passed ∙ c.in_err-written.ensures) why passed
+    refuses _ no_table (given (goal.at.returns-in_err-written c).After-verdict) c.args.out.now _ _ _ _ refl (sized (goal.at.returns-in_err-written c).After-verdict) refl (passed ∙ c.in_err-written.ensures _ (c.dump_refusal-fields.ensures _)) why passed
 
 pub put_head-requires : goal.put_head-requires
 put_head-requires c = let s = (fine 0 (goal.at.put_head-requires c).In_ok-written).space in search rules

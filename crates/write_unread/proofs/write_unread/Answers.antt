@@ -24,25 +24,25 @@ given c =
     let a = c.args in unread_given a.time a.ty a.subtype a.contents.now
 
 -- the message's length, as it is added up
-sized : (c : After-verdict) → let given : (Given) = let a = c.args in unread_given a.time a.ty a.subtype a.contents.now in c.add-size.result ≡ capped (length (message given))
+sized : (c : After-verdict) → let given : (Given) = let a = c.args in unread_given a.time a.ty a.subtype a.contents.now in c.saturating_add-size.result ≡ capped (length (message given))
 sized c =
     let given : (Given) = let a = c.args in unread_given a.time a.ty a.subtype a.contents.now in
     let a = c.args in
-    c.add-size.ensures ∙ ap capped (ap (λ (m : ℕ). m + length a.contents.now) c.micro.ensures ∙ sym (message_long a.time a.ty a.subtype a.contents.now))
+    c.saturating_add-size.ensures ∙ ap capped (ap (λ (m : ℕ). m + length a.contents.now) c.micro.ensures ∙ sym (message_long a.time a.ty a.subtype a.contents.now))
 
 -- ---- the record goes into the buffer
 fine : (longest : ℕ) (c : In_ok-written) → let given : (Given) = let a = c.args in unread_given a.time a.ty a.subtype a.contents.now in let a = c.args in
-    Goes (only_type (unreads (micro_size a.time)) longest) no_table given a.out.now (c.add-size.result) (Octets c.in_ok-written.written)
+    Goes (only_type (unreads (micro_size a.time)) longest) no_table given a.out.now (c.saturating_add-size.result) (Octets c.in_ok-written.written)
 fine longest c =
     let given : (Given) = let a = c.args in unread_given a.time a.ty a.subtype a.contents.now in
-    let sized : (c.add-size.result ≡ capped (length (message given))) = let a = c.args in c.add-size.ensures ∙ ap capped (ap (λ (m : ℕ). m + length a.contents.now) c.micro.ensures ∙ sym (message_long a.time a.ty a.subtype a.contents.now)) in
-    goes _ _ _ _ _ _ _ _ (c.unread_refusal-n.ensures longest) sized refl c.in_ok-written.ensures _ refl
+    let sized : (c.saturating_add-size.result ≡ capped (length (message given))) = let a = c.args in c.saturating_add-size.ensures ∙ ap capped (ap (λ (m : ℕ). m + length a.contents.now) c.micro.ensures ∙ sym (message_long a.time a.ty a.subtype a.contents.now)) in
+    goes _ _ _ _ _ _ _ _ refl sized refl (c.in_ok-written.ensures _ (c.unread_refusal.ensures longest c.args.contents.now)) _ refl
 
 space : (c : In_ok-written) → let a = c.args in 12 + (micro_size a.time + length a.contents.now) ≤ length a.out.now
 space c =
     let given : (Given) = let a = c.args in unread_given a.time a.ty a.subtype a.contents.now in
-    let sized : (c.add-size.result ≡ capped (length (message given))) = let a = c.args in c.add-size.ensures ∙ ap capped (ap (λ (m : ℕ). m + length a.contents.now) c.micro.ensures ∙ sym (message_long a.time a.ty a.subtype a.contents.now)) in
-    let fine : (let a = c.args in Goes (only_type (unreads (micro_size a.time)) 0) no_table given a.out.now (c.add-size.result) (Octets c.in_ok-written.written)) = goes _ _ _ _ _ _ _ _ (c.unread_refusal-n.ensures 0) sized refl c.in_ok-written.ensures _ refl in
+    let sized : (c.saturating_add-size.result ≡ capped (length (message given))) = let a = c.args in c.saturating_add-size.ensures ∙ ap capped (ap (λ (m : ℕ). m + length a.contents.now) c.micro.ensures ∙ sym (message_long a.time a.ty a.subtype a.contents.now)) in
+    let fine : (let a = c.args in Goes (only_type (unreads (micro_size a.time)) 0) no_table given a.out.now (c.saturating_add-size.result) (Octets c.in_ok-written.written)) = goes _ _ _ _ _ _ _ _ refl sized refl (c.in_ok-written.ensures _ (c.unread_refusal.ensures 0 c.args.contents.now)) _ refl in
     let a = c.args in
     let l = message_long a.time a.ty a.subtype a.contents.now in
     omega (arith, fine.space)
@@ -52,7 +52,7 @@ returns-in_err-written c =
     let a = c.args in
     let why = c.in_err-written.field-0.0 in
     let passed : c.from_residual.result ≡ Err why = search rules in
-    refuses _ _ (given (goal.at.returns-in_err-written c).After-verdict) c.args.out.now _ _ _ _ (c.unread_refusal-n.ensures _) (sized (goal.at.returns-in_err-written c).After-verdict) refl (passed ∙ c.in_err-written.ensures) why passed
+    refuses _ _ (given (goal.at.returns-in_err-written c).After-verdict) c.args.out.now _ _ _ _ refl (sized (goal.at.returns-in_err-written c).After-verdict) refl (passed ∙ c.in_err-written.ensures _ (c.unread_refusal.ensures _ a.contents.now)) why passed
 
 pub put_head-requires : goal.put_head-requires
 put_head-requires c = let s = space (goal.at.put_head-requires c).In_ok-written in search rules
