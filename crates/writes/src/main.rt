@@ -152,6 +152,7 @@ impl<'a> Case<'a> {
         )
     }
 
+    // By number: 6 to 255 all mean the last writer, so an enum would be longer than this.
     fn write(&self, out: &mut [u8]) -> Result<usize, Fault> {
         match self.writer {
             0 => self.unread(out),
