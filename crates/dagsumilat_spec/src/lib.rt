@@ -1,7 +1,7 @@
 #![tactic(auto)]
 
 // A record: where it ends, the table in force behind it, its peer AS, where its items start, counted from its header, and how many
-// they are; or a fault's number and place. The fault is a number, 0 for none, as in the words of the call for C.
+// they are; or a fault's number and place.
 #[derive(Drop)]
 pub struct RecordAnswer {
     pub fault: u8,
