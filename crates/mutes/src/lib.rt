@@ -3,7 +3,7 @@
 
 ghost use Rattle.std.specs.Prelude.{◌≡◌, ◌+◌, min, ◌<◌, length};
 ghost use Rattle.cut_spec.specs.Cut.{mem};
-ghost use Rattle.mutes_spec.specs.Slots.{SlotsHold, empty_slots};
+ghost use Rattle.mutes_spec.specs.Slots.{SlotsHold, Filled, empty_slots};
 ghost use Rattle.mutes.specs.LookEnds.{SlotsHoldSome, LookEnds};
 
 use mutes_spec::Slots;
@@ -28,16 +28,21 @@ impl<'a> Model for Mutes<'a> {
 }
 
 impl<'a> Mutes<'a> {
+    // A list with slots that are filled from it.
+    pub fn filled(list: &'a [u32], slots: &'a Slots) -> Mutes<'a>
+        requires { Filled list.now slots.now }
+        ensures { result ≡ list.now }
+    {
+        Mutes { list, slots }
+    }
+
     // Fills empty slots from a list.
     pub fn of(list: &'a [u32], slots: &'a mut Slots) -> Mutes<'a>
         requires { slots.old ≡ empty_slots }
         ensures { result ≡ list.now }
     {
-        let held = held_of(list.len());
-        for i in 0..held {
-            hold(i, list, slots);
-        }
-        Mutes { list, slots }
+        fill(list, slots);
+        Mutes::filled(list, slots)
     }
 
     // Whether an AS number is on the list. The one routine that is asked.
@@ -58,6 +63,17 @@ fn held_of(count: usize) -> usize
     ensures { result ≡ min count 65535 }
 {
     count.min(65535)
+}
+
+// Fills empty slots from a list.
+pub fn fill(list: &[u32], slots: &mut Slots)
+    requires { slots.old ≡ empty_slots }
+    ensures { Filled list.now slots.new }
+{
+    let held = held_of(list.len());
+    for i in 0..held {
+        hold(i, list, slots);
+    }
 }
 
 // Puts the number behind the first i of the list where a look for it ends. A repeat is there already.

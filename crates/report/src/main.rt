@@ -6,6 +6,7 @@ use std::io;
 use streams::read_at_most;
 
 fn main(rt: HostRuntime) -> io::Result<()> {
-    let dump = read_at_most(rt.alloc(), &mut rt.stdin(), MOST)?;
-    shown::report(&mut rt.stdout(), &dump)
+    let mut room = [0u8; MOST];
+    let dump = read_at_most(&mut rt.stdin(), &mut room)?;
+    shown::report(&mut rt.stdout(), dump)
 }

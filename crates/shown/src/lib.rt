@@ -50,11 +50,15 @@ pub fn adler32(octets: &[u8]) -> u64
     65536 * high + low
 }
 
-// Whether octets of the room are as they were before the call.
+// Whether octets of the room are as they were before the call. Without a way out, as `all` has one, many are compared at once.
 pub fn is_untouched(rest: &[u8]) -> bool
     ensures { (result ≡ true) ↔ All (λ octet. octet ≡ 165) rest.now }
 {
-    rest.iter().all(|octet| *octet == FILL)
+    let mut untouched = true;
+    for octet in rest {
+        untouched &= *octet == FILL;
+    }
+    untouched
 }
 
 // Octets in hexadecimal digits.

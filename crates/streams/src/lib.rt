@@ -2,7 +2,7 @@
 #![tactic(auto)]
 
 ghost use Rattle.std.specs.Io.KnownBytes.{Consumes, IsAtEnd};
-ghost use Rattle.std.specs.Prelude.{◌<◌, ◌≤◌, IfOk, length, take, vec_len};
+ghost use Rattle.std.specs.Prelude.{◌<◌, ◌≤◌, IfOk, IfSome, length, take};
 
 use std::alloc::Global;
 use std::env::FillError;
@@ -28,16 +28,14 @@ pub fn read_full<R: Read>(from: &mut R, buf: &mut [u8]) -> io::Result<usize>
     Ok(done)
 }
 
-// What the input gives, but no more than `most` octets of it.
-pub fn read_at_most<R: Read>(alloc: Global, from: &mut R, most: usize) -> io::Result<Vec<u8>>
-    ensures in_bounds { IfOk result (λ octets. vec_len octets ≤ most) }
-    ensures octets { IfOk result (λ octets. Consumes (R.remaining from.old) (R.remaining from.new) octets.items) }
-    ensures end { IfOk result (λ octets. vec_len octets < most → IsAtEnd (R.remaining from.new)) }
+// What the input gives, but no more than the room takes: the part of the room where it was put.
+pub fn read_at_most<'a, R: Read>(from: &mut R, room: &'a mut [u8]) -> io::Result<&'a [u8]>
+    ensures in_bounds { IfOk result (λ octets. length octets.now ≤ length room.old) }
+    ensures octets { IfOk result (λ octets. Consumes (R.remaining from.old) (R.remaining from.new) octets.now) }
+    ensures end { IfOk result (λ octets. length octets.now < length room.old → IsAtEnd (R.remaining from.new)) }
 {
-    let mut octets = vec![in alloc; 0u8; most]?;
-    let n = read_full(from, &mut octets)?;
-    octets.truncate(n);
-    Ok(octets)
+    let n = read_full(from, room)?;
+    Ok(&room[..n])
 }
 
 // Whether there is an argument i; 0 is the program's name.
@@ -45,8 +43,15 @@ fn has_arg(rt: &impl Env, i: usize) -> bool {
     !matches!(rt.arg(i, &mut []), Err(FillError::NotPresent))
 }
 
+// How many arguments there are, the program's name among them.
+pub fn arg_count(rt: &impl Env) -> usize {
+    (0..usize::MAX).take_while(|i| has_arg(rt, *i)).count()
+}
+
 // Argument i, at the start of buf; none where it is missing or longer than buf.
-fn arg<'a>(rt: &impl Env, i: usize, buf: &'a mut [u8]) -> Option<&'a [u8]> {
+fn arg<'a>(rt: &impl Env, i: usize, buf: &'a mut [u8]) -> Option<&'a [u8]>
+    ensures { IfSome result (λ octets. length octets.now ≤ length buf.old) }
+{
     let n = rt.arg(i, buf).ok()?;
     Some(&buf[..n])
 }
@@ -76,7 +81,7 @@ fn fail<W: Write>(alloc: Global, to: &mut W, what: &[u8], e: io::Error) -> io::R
 
 // The file that argument i names, after a line with its name; where it cannot be opened, standard error says why. An argument that is too
 // long for a path names no file, as an empty one.
-fn named(rt: &HostRuntime, i: usize) -> io::Result<Option<File>> {
+pub fn named(rt: &HostRuntime, i: usize) -> io::Result<Option<File>> {
     let mut room = [0u8; 4096];
     let path = arg(rt, i, &mut room).unwrap_or(&[]);
     rt.write_all(path)?;
@@ -94,7 +99,7 @@ fn named(rt: &HostRuntime, i: usize) -> io::Result<Option<File>> {
 pub fn each_named<F: FnMut(File) -> io::Result<()>>(rt: &HostRuntime, mut case: F) -> io::Result<()>
     requires { F.IsAlwaysCallable case }
 {
-    for i in (1..usize::MAX).take_while(|i| has_arg(rt, *i)) {
+    for i in 1..arg_count(rt) {
         if let Some(file) = named(rt, i)? {
             case(file)?;
         }
@@ -106,14 +111,14 @@ pub fn each_named<F: FnMut(File) -> io::Result<()>>(rt: &HostRuntime, mut case: 
 mod tests {
     use super::*;
 
-    // What no clause says: that there is memory for it.
     #[test]
     fn reads_what_is_there(rt: HostRuntime) -> io::Result<()> {
         let mut input: &[u8] = b"records";
-        let first = read_at_most(rt.alloc(), &mut input, 3)?;
-        assert!(rt; first.as_slice() == b"rec".as_slice());
-        let rest = read_at_most(rt.alloc(), &mut input, 9)?;
-        assert!(rt; rest.as_slice() == b"ords".as_slice());
+        let mut room = [0u8; 9];
+        let first = read_at_most(&mut input, &mut room[..3])?;
+        assert!(rt; first == b"rec".as_slice());
+        let rest = read_at_most(&mut input, &mut room)?;
+        assert!(rt; rest == b"ords".as_slice());
         Ok(())
     }
 }

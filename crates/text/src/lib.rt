@@ -1,9 +1,9 @@
 // Text in UTF-8.
 #![tactic(auto)]
 
-ghost use Rattle.std.specs.Prelude.{◌≡◌, true, ◌≤◌, ◌∷◌};
-ghost use Rattle.text_spec.specs.Check.{least, most, follow, start_of, goes_on, is_text};
-ghost use Rattle.text.specs.Behind.{Behind, Leaves};
+ghost use Rattle.std.specs.Prelude.{◌≡◌, true, ◌≤◌, ◌<◌, length};
+ghost use Rattle.text_spec.specs.Check.{least, most, follow, start_of, is_text};
+ghost use Rattle.text.specs.Over.{Over, Ends};
 
 use text_spec::Start;
 
@@ -53,51 +53,56 @@ fn start_of(x: u8) -> Option<Start>
     }
 }
 
-// What stands behind one more octet of a sequence, which lies from `low` to `high`.
-#[tactic(auto, unfolding(text_spec::specs::Check::goes_on, form_spec::specs::Words::in_range))]
-fn one_more(m: &[u8], low: u8, high: u8) -> Option<&[u8]>
-    ensures { Behind m.now 1 low high result }
+// Whether an octet more belongs to the sequence: it is there, and lies from `low` to `high`.
+fn one_more(m: &[u8], at: usize, low: u8, high: u8) -> bool
+    ensures { Over m.now at 1 low high result }
 {
-    let (x, rest) = m.split_first()?;
-    if low <= *x && *x <= high {
-        Some(rest)
-    } else {
-        None
+    if m.len() <= at {
+        return false;
     }
+    low <= m[at] && m[at] <= high
 }
 
-// Behind two more, the first of them from `low` to `high`.
-fn two_more(m: &[u8], low: u8, high: u8) -> Option<&[u8]>
-    ensures { Behind m.now 2 low high result }
+// Two more, the first of them from `low` to `high`.
+fn two_more(m: &[u8], at: usize, low: u8, high: u8) -> bool
+    ensures { Over m.now at 2 low high result }
 {
-    one_more(one_more(m, low, high)?, 128, 191)
+    one_more(m, at, low, high) && one_more(m, at + 1, 128, 191)
 }
 
-// Behind three more.
-fn three_more(m: &[u8], low: u8, high: u8) -> Option<&[u8]>
-    ensures { Behind m.now 3 low high result }
+// Three more.
+fn three_more(m: &[u8], at: usize, low: u8, high: u8) -> bool
+    ensures { Over m.now at 3 low high result }
 {
-    two_more(one_more(m, low, high)?, 128, 191)
+    one_more(m, at, low, high) && two_more(m, at + 1, 128, 191)
 }
 
-// Behind all that follow the first octet. Each number by itself: a loop's end would be mispredicted where neighbours differ in length.
-fn go_on(m: &[u8], start: Start) -> Option<&[u8]>
-    requires { start.more ≤ 3 }
-    ensures { Leaves (goes_on m.now start.more start.low start.high) m.now result }
+// So many more. Each number by itself: a loop's end would be mispredicted where neighbours differ in length.
+fn go_on(m: &[u8], at: usize, start: Start) -> bool
+    requires { (0 < start.more) × (start.more ≤ 3) }
+    ensures { Over m.now at start.more start.low start.high result }
 {
     match start.more {
-        0 => Some(m),
-        1 => one_more(m, start.low, start.high),
-        2 => two_more(m, start.low, start.high),
-        _ => three_more(m, start.low, start.high),
+        1 => one_more(m, at, start.low, start.high),
+        2 => two_more(m, at, start.low, start.high),
+        _ => three_more(m, at, start.low, start.high),
     }
 }
 
-// What stands behind the sequence that starts with `first`.
-fn behind_sequence(first: u8, others: &[u8]) -> Option<&[u8]>
-    ensures { Leaves (is_text (first ∷ others.now)) others.now result }
+// Where the sequence at `at` ends. By places in m: slices that grow shorter take half as long again where all sequences have two octets.
+fn sequence_end(m: &[u8], at: usize) -> Option<usize>
+    requires { at < length m.now }
+    ensures { Ends m.now at result }
 {
-    go_on(others, start_of(first)?)
+    let start = start_of(m[at])?;
+    let next = at + 1;
+    if start.more == 0 {
+        return Some(next);
+    }
+    if go_on(m, next, start) {
+        return Some(next + usize::from(start.more));
+    }
+    None
 }
 
 // Whether all octets have 7 bits, and so are a sequence each. All are looked at: a loop without a way out is made wide.
@@ -115,12 +120,12 @@ fn seven_bits(m: &[u8]) -> bool
 fn all_sequences(m: &[u8]) -> bool
     ensures { result ≡ is_text m.now }
 {
-    let mut rest = m;
-    while let Some((first, others)) = rest.split_first() {
-        let Some(behind) = behind_sequence(*first, others) else {
+    let mut at = 0;
+    while at < m.len() {
+        let Some(end) = sequence_end(m, at) else {
             return false;
         };
-        rest = behind;
+        at = end;
     }
     true
 }

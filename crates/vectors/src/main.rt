@@ -7,7 +7,8 @@ use streams::{each_named, read_at_most};
 
 fn main(rt: HostRuntime) -> io::Result<()> {
     each_named(&rt, |mut file| {
-        let dump = read_at_most(rt.alloc(), &mut file, MOST)?;
-        shown::list(&mut rt.stdout(), &dump)
+        let mut room = [0u8; MOST];
+        let dump = read_at_most(&mut file, &mut room)?;
+        shown::list(&mut rt.stdout(), dump)
     })
 }

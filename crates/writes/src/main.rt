@@ -9,6 +9,7 @@ use form_spec::Fault;
 use octets::number;
 use record_spec::Table;
 use shown::FILL;
+use std::fs::File;
 use std::{array, io};
 use streams::{each_named, read_at_most};
 use write_bgp::{write_change, write_message};
@@ -175,20 +176,23 @@ fn table(held: u64, peers: u64) -> Table {
 }
 
 // A case that is too short, or asks for too much room, is passed over.
-fn run(rt: &(impl Print + AllocGlobal), octets: &[u8]) -> io::Result<()> {
+fn run(rt: &impl Print, octets: &[u8], out: &mut [u8]) -> io::Result<()> {
     let Some(case) = Case::read(octets) else {
         return Ok(());
     };
-    if MOST < case.room {
+    if out.len() < case.room {
         return Ok(());
     }
-    let mut out = vec![in rt.alloc(); FILL; MOST]?;
     let answer = case.write(&mut out[..case.room]);
-    shown::answer(rt, answer, &out, MOST)
+    shown::answer(rt, answer, out, MOST)
+}
+
+fn one(rt: &HostRuntime, mut file: File) -> io::Result<()> {
+    let mut room = [0u8; MOST];
+    let mut out = [FILL; MOST];
+    run(rt, read_at_most(&mut file, &mut room)?, &mut out)
 }
 
 fn main(rt: HostRuntime) -> io::Result<()> {
-    each_named(&rt, |mut file| {
-        run(&rt, &read_at_most(rt.alloc(), &mut file, MOST)?)
-    })
+    each_named(&rt, |file| one(&rt, file))
 }
